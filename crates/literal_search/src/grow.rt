@@ -1,18 +1,19 @@
 //! The states of an automaton, made from the shorter to the longer words, and their rows.
 ghost use Rattle.std.specs.Prelude.{◌≡◌, ◌+◌, ◌-◌, ◌*◌, ◌<◌, ◌≤◌, ◌^◌, ◌++◌, ◌∷◌, ◌==◌, ◌&&◌, [], ℕ, if◌then◌else◌};
 ghost use Rattle.std.specs.Prelude.{IfErr, IfOk, IfSome, List, Option, false, length, map};
-ghost use Rattle.std.specs.Prelude.{slice_index_or, slice_range, true};
+ghost use Rattle.std.specs.Prelude.{slice_index, slice_index_or, slice_range, true};
 ghost use Rattle.std.specs.List.{filter, find, range_with_len};
 ghost use Rattle.std.specs.Option.{unwrap_or};
 ghost use Rattle.literal_base.specs.Occurs.{pattern_at};
 ghost use Rattle.literal_search.specs.Table.{LeadsTo, Recognises, code_of, nothing, stride_of};
 ghost use Rattle.literal_search.specs.Words.{ending, first_equal, live_suffix, word_of};
 ghost use Rattle.literal_search.specs.Inside.Classes.{AreClasses, symbols_in};
-ghost use Rattle.literal_search.specs.Inside.Grown.{AreWords, IsLonger, failure_of, goes_on, list_for};
+ghost use Rattle.literal_search.specs.Inside.Grown.{AreWords, IsLonger, failure_of, goes_on, list_for, symbols_after};
 ghost use Rattle.literal_search.specs.States.{AreStates, HasTooManyStates, IsRowsLength};
-ghost use Rattle.literal_search.specs.Inside.Growing.{AreTexts, AreWordsIn, Grows, IsNextState, LeadsIn, list_in};
-ghost use Rattle.literal_search.specs.Inside.Growing.{texts_of, word_behind, word_in, words_of};
+ghost use Rattle.literal_search.specs.Inside.Growing.{AreTexts, AreWordsTo, Grows, IsNextState, LeadBack, LeadOn};
+ghost use Rattle.literal_search.specs.Inside.Growing.{LeadsIn, list_in, texts_of, word_behind, word_in, words_of};
 
+use crate::prepared::put_numbers;
 use crate::walk::{ENDS, NOTHING};
 use std::alloc::{AllocError, Global};
 
@@ -36,6 +37,15 @@ impl From<AllocError> for GrowError {
     }
 }
 
+/// Where a pattern ends, in place of the class with which it goes on.
+const NO_CLASS: u32 = 256;
+
+/// How many numbers the longest row has.
+const ROW_LEN: usize = 257;
+
+/// For how many numbers there is room at first, at most: they take 64 MiB.
+const MOST_ROOM: usize = 1 << 24;
+
 /// How long all rows may be together.
 const LIMIT: usize = (1 << 31) - 1;
 
@@ -48,15 +58,19 @@ pub struct Texts<'p> {
 }
 
 impl<'p> Texts<'p> {
-    /// Whether a pattern goes on with a class behind so many symbols.
-    fn goes_on(&self, pattern: u32, depth: u32, class: u8) -> bool
+    /// The class with which a pattern goes on after so many symbols, and `NO_CLASS` at its end.
+    fn class_after(&self, pattern: u32, depth: u32) -> u32
         requires texts { AreTexts self.now }
         requires is_pattern { pattern < length self.now.patterns.now }
-        ensures { result ≡ goes_on (pattern_at (texts_of self.now) pattern) depth class }
+        ensures { result ≡ slice_index_or (pattern_at (texts_of self.now) pattern) depth 256 }
     {
         let bytes = self.patterns[pattern as usize].as_slice();
         let at = depth as usize;
-        at < bytes.len() && self.classes[bytes[at] as usize] == class
+        if at < bytes.len() {
+            u32::from(self.classes[bytes[at] as usize])
+        } else {
+            NO_CLASS
+        }
     }
 
     /// Whether a pattern ends behind so many symbols and one more.
@@ -67,37 +81,39 @@ impl<'p> Texts<'p> {
         self.patterns[pattern as usize].len() == depth as usize + 1
     }
 
-    /// Adds a pattern to lists if it goes on with a class, and answers whether it ends there.
+    /// Adds a pattern to lists if the class with which it goes on is this one. Returns whether it ends there.
     fn push_if_longer(
         &self,
         lists: &mut Vec<u32>,
         depth: u32,
         class: u8,
         pattern: u32,
+        class_after: u32,
     ) -> Result<bool, AllocError>
-        requires texts { AreTexts self.now }
         requires is_pattern { pattern < length self.now.patterns.now }
+        requires after { class_after ≡ slice_index_or (pattern_at (texts_of self.now) pattern) depth 256 }
         ensures lists { IfOk result (λ _. lists.new.items ≡ lists.old.items
             ++ (if goes_on (pattern_at (texts_of self.now) pattern) depth class then pattern ∷ [] else [])) }
         ensures whole { IfOk result (λ whole. whole ≡ (goes_on (pattern_at (texts_of self.now) pattern) depth class
             && length (pattern_at (texts_of self.now) pattern) == depth + 1)) }
     {
-        if !self.goes_on(pattern, depth, class) {
+        if class_after != u32::from(class) {
             return Ok(false);
         }
         lists.push(pattern)?;
         Ok(self.ends_behind(pattern, depth))
     }
 
-    /// Adds to lists the patterns of a state's list that go on with a class, and answers the first of them that ends
-    /// there.
+    /// Adds to lists the patterns of a state's list that go on with a class. Returns the first of them that ends there.
     fn push_longer(
         &self,
         lists: &mut Vec<u32>,
         here: State,
         class: u8,
+        classes_after: &[u32],
     ) -> Result<Option<u32>, AllocError>
-        requires texts { AreTexts self.now }
+        requires after { classes_after.now ≡ map (λ i. slice_index_or (pattern_at (texts_of self.now) i) here.depth 256)
+            (list_in lists.old.items here) }
         requires ordered { here.start ≤ here.end }
         requires inside { here.end ≤ length lists.old.items }
         requires numbers { (k d : ℕ) → k < length lists.old.items
@@ -115,11 +131,24 @@ impl<'p> Texts<'p> {
         let mut whole = None;
         for place in here.start..here.end {
             let pattern = lists[place];
-            if self.push_if_longer(lists, here.depth, class, pattern)? {
+            let after = classes_after[place - here.start];
+            if self.push_if_longer(lists, here.depth, class, pattern, after)? {
                 whole = whole.or(Some(pattern));
             }
         }
         Ok(whole)
+    }
+
+    /// How many numbers the rows have room for at first: as many as they need if no two patterns begin alike, but at
+    /// most `MOST_ROOM`.
+    fn first_room(&self) -> usize
+        requires { AreTexts self.now }
+    {
+        let mut states: usize = 1;
+        for pattern in self.patterns {
+            states = states.saturating_add(pattern.len());
+        }
+        states.saturating_mul(self.width + 1).min(MOST_ROOM)
     }
 
     /// Whether the rows of the prefixes of a pattern are too long.
@@ -172,35 +201,57 @@ pub struct Growing<'p> {
 }
 
 impl<'p> Growing<'p> {
-    /// The classes with which a pattern of a state's list goes on.
-    fn marks(&self, state: usize) -> [bool; 256]
+    /// Writes into a list the classes with which the patterns of a state's list go on.
+    fn put_classes_after(
+        &self,
+        state: usize,
+        classes_after: &mut Vec<u32>,
+    ) -> Result<(), AllocError>
         requires grows { Grows self.now }
         requires is_state { state < length self.now.states.items }
-        ensures { (class : ℕ) → slice_index_or result class false ≡ false → list_for
-            (texts_of self.now.texts) (word_behind self.now state class) ≡ [] }
+        ensures { IfOk result (λ _. classes_after.new.items
+            ≡ symbols_after (texts_of self.now.texts) (word_of (words_of self.now) state)) }
     {
-        let mut marks = [false; 256];
         let State {
             depth,
             start,
             end,
             ..
         } = self.states[state];
+        classes_after.clear();
         for pattern in &self.lists[start..end] {
-            let bytes = self.texts.patterns[*pattern as usize].as_slice();
-            if (depth as usize) < bytes.len() {
-                let class = self.texts.classes[bytes[depth as usize] as usize];
-                marks[class as usize] = true;
-            }
+            classes_after.push(self.texts.class_after(*pattern, depth))?;
         }
-        marks
+        Ok(())
     }
 
-    /// Adds to the lists the patterns of a state's list that go on with a class, and answers the first of them that
-    /// ends there.
-    fn push_list(&mut self, state: usize, class: u8) -> Result<Option<u32>, AllocError>
+    /// Writes into a row the numbers in the row of a state's failure state. The first state has none: they are 0.
+    fn put_failure_row(&self, state: usize, row: &mut [u32; ROW_LEN])
+        requires grows { Grows self.now }
+        requires is_state { state < length self.now.states.items }
+        requires filled { length self.now.rows.items ≡ state * stride_of self.now.texts.width }
+        ensures { LeadBack self.now state 0 row.new }
+    {
+        if state == 0 {
+            row.fill(0);
+            return;
+        }
+        let start = place_of(self.states[state].failure);
+        put_numbers(row, 0, &self.rows[start..start + self.texts.width]);
+    }
+
+    /// Adds to the lists the patterns of a state's list that go on with a class. Returns the first of them that ends
+    /// there.
+    fn push_list(
+        &mut self,
+        state: usize,
+        class: u8,
+        classes_after: &[u32],
+    ) -> Result<Option<u32>, AllocError>
         requires grows { Grows self.old }
         requires is_state { state < length self.old.states.items }
+        requires after { classes_after.now
+            ≡ symbols_after (texts_of self.old.texts) (word_of (words_of self.old) state) }
         ensures grows { IfOk result (λ _. Grows self.new) }
         ensures lists { IfOk result (λ _. self.new.lists.items ≡ self.old.lists.items
             ++ list_for (texts_of self.old.texts) (word_behind self.old state class)) }
@@ -210,32 +261,22 @@ impl<'p> Growing<'p> {
             × (self.new.rows ≡ self.old.rows)) }
     {
         let here = self.states[state];
-        let whole = self.texts.push_longer(&mut self.lists, here, class)?;
+        let whole = self
+            .texts
+            .push_longer(&mut self.lists, here, class, classes_after)?;
         Ok(whole)
     }
 
-    /// The number in a row for the failure link of a state's word with one symbol more.
-    fn behind_failure(&self, state: usize, class: u8) -> u32
-        requires grows { Grows self.now }
-        requires is_state { state < length self.now.states.items }
-        requires is_class { class < self.now.texts.width }
-        requires filled { state * stride_of self.now.texts.width ≤ length self.now.rows.items }
-        ensures { LeadsIn self.now result (failure_of (texts_of self.now.texts) (word_behind self.now state class)) }
-    {
-        if state == 0 {
-            return 0;
-        }
-        let failure = self.states[state].failure;
-        self.rows[place_of(failure) + class as usize]
-    }
-
-    /// The ending of the state to which a number in a row leads.
+    /// The ending of the state to which a number in a row leads. The number itself tells whether there is one.
     fn ending_of(&self, code: u32) -> u32
         requires grows { Grows self.now }
         requires leads { (word : List ℕ) × LeadsIn self.now code word }
         ensures { (word : List ℕ) → LeadsIn self.now code word
             → result ≡ unwrap_or (ending (texts_of self.now.texts) word) nothing }
     {
+        if code < ENDS {
+            return NOTHING;
+        }
         self.states[place_of(code) / (self.texts.width + 1)].ending
     }
 
@@ -310,32 +351,35 @@ impl<'p> Growing<'p> {
         Ok(())
     }
 
-    /// The number in a row for a state and a class, which may be marked. Adds the state to which it
-    /// leads where a pattern goes on with the class.
-    fn next(&mut self, state: usize, class: u8, is_marked: bool) -> Result<u32, GrowError>
+    /// The number in a row for a state and a class, where the number for the failure link is known. Adds the state to
+    /// which it leads if a pattern goes on with the class.
+    fn next(
+        &mut self,
+        state: usize,
+        class: u8,
+        classes_after: &[u32],
+        failure: u32,
+    ) -> Result<u32, GrowError>
         requires grows { Grows self.old }
         requires is_state { state < length self.old.states.items }
         requires is_class { class < self.old.texts.width }
-        requires filled { length self.old.rows.items ≡ state * stride_of self.old.texts.width + class }
-        requires words { AreWordsIn self.old }
-        requires unmarked { is_marked ≡ false → list_for (texts_of self.old.texts)
-            (word_behind self.old state class) ≡ [] }
+        requires words { AreWordsTo self.old (state * stride_of self.old.texts.width + class) }
+        requires after { classes_after.now
+            ≡ symbols_after (texts_of self.old.texts) (word_of (words_of self.old) state) }
+        requires failure { LeadsIn self.old failure
+            (failure_of (texts_of self.old.texts) (word_behind self.old state class)) }
         ensures grows { IfOk result (λ _. Grows self.new) }
         ensures leads { IfOk result (λ code. LeadsTo (texts_of self.old.texts) (words_of self.new)
             self.old.texts.width code (live_suffix (texts_of self.old.texts) (word_behind self.old state class))) }
         ensures words { IfOk result (λ _. AreWords (texts_of self.old.texts) (words_of self.new)
-            self.old.texts.width (length self.old.rows.items + 1)) }
+            self.old.texts.width (state * stride_of self.old.texts.width + class + 1)) }
         ensures too_many { IfErr result (λ error. error ≡ GrowError.TooManyStates
             → HasTooManyStates (texts_of self.old.texts) self.old.texts.width) }
         ensures kept { IfOk result (λ _. IsLonger (words_of self.old) (words_of self.new)) }
         ensures same { IfOk result (λ _. (self.new.texts ≡ self.old.texts) × (self.new.rows ≡ self.old.rows)) }
     {
-        let failure = self.behind_failure(state, class);
-        if !is_marked {
-            return Ok(failure);
-        }
         let start = self.lists.len();
-        let whole = self.push_list(state, class)?;
+        let whole = self.push_list(state, class, classes_after)?;
         if self.lists.len() == start {
             return Ok(failure);
         }
@@ -344,69 +388,123 @@ impl<'p> Growing<'p> {
         Ok(code)
     }
 
-    /// Adds to the rows the number of a state for a class, or, behind those for all classes, for what ends there.
-    fn push_number(&mut self, state: usize, class: usize, number: u32) -> Result<(), AllocError>
-        requires grows { Grows self.old }
-        requires is_state { state < length self.old.states.items }
-        requires is_class { class ≤ self.old.texts.width }
-        requires filled { length self.old.rows.items ≡ state * stride_of self.old.texts.width + class }
-        requires leads { class < self.old.texts.width → LeadsIn self.old number
-            (live_suffix (texts_of self.old.texts) (word_behind self.old state class)) }
-        requires ends { class ≡ self.old.texts.width → number
-            ≡ unwrap_or (ending (texts_of self.old.texts) (word_of (words_of self.old) state)) nothing }
-        ensures grows { IfOk result (λ _. Grows self.new) }
-        ensures filled { IfOk result (λ _. length self.new.rows.items ≡ length self.old.rows.items + 1) }
-        ensures same { IfOk result (λ _. (self.new.texts ≡ self.old.texts) × (self.new.states ≡ self.old.states)) }
-    {
-        let _ = (state, class); // (its contract names them)
-        self.rows.push(number)?;
-        Ok(())
-    }
-
-    /// Adds the place of a state and a class to the rows.
-    fn add_place(&mut self, state: usize, class: u8, is_marked: bool) -> Result<(), GrowError>
+    /// Writes into a row the number for a class, where the classes below it have theirs.
+    fn put_next(
+        &mut self,
+        state: usize,
+        class: u8,
+        classes_after: &[u32],
+        row: &mut [u32; ROW_LEN],
+    ) -> Result<(), GrowError>
         requires grows { Grows self.old }
         requires is_state { state < length self.old.states.items }
         requires is_class { class < self.old.texts.width }
-        requires filled { length self.old.rows.items ≡ state * stride_of self.old.texts.width + class }
-        requires words { AreWordsIn self.old }
-        requires unmarked { is_marked ≡ false → list_for (texts_of self.old.texts)
-            (word_behind self.old state class) ≡ [] }
+        requires words { AreWordsTo self.old (state * stride_of self.old.texts.width + class) }
+        requires after { classes_after.now
+            ≡ symbols_after (texts_of self.old.texts) (word_of (words_of self.old) state) }
+        requires on { LeadOn self.old state class row.old }
+        requires back { LeadBack self.old state class row.old }
         ensures grows { IfOk result (λ _. Grows self.new) }
-        ensures filled { IfOk result (λ _. length self.new.rows.items ≡ length self.old.rows.items + 1) }
-        ensures words { IfOk result (λ _. AreWordsIn self.new) }
+        ensures words { IfOk result (λ _. AreWordsTo self.new (state * stride_of self.old.texts.width + class + 1)) }
+        ensures on { IfOk result (λ _. LeadOn self.new state (class + 1) row.new) }
+        ensures back { IfOk result (λ _. LeadBack self.new state (class + 1) row.new) }
         ensures too_many { IfErr result (λ error. error ≡ GrowError.TooManyStates
             → HasTooManyStates (texts_of self.old.texts) self.old.texts.width) }
         ensures kept { IfOk result (λ _. IsLonger (words_of self.old) (words_of self.new)) }
-        ensures same { IfOk result (λ _. self.new.texts ≡ self.old.texts) }
+        ensures same { IfOk result (λ _. (self.new.texts ≡ self.old.texts) × (self.new.rows ≡ self.old.rows)) }
     {
-        let next = self.next(state, class, is_marked)?;
-        self.push_number(state, class as usize, next)?;
+        let place = class as usize;
+        row[place] = self.next(state, class, classes_after, row[place])?;
         Ok(())
     }
 
-    /// Adds the row of a state.
-    fn add_row(&mut self, state: usize) -> Result<(), GrowError>
+    /// Makes the numbers of a state for all classes from those of its failure state. They differ for the classes with
+    /// which a pattern of the state's list goes on.
+    fn put_all_next(
+        &mut self,
+        state: usize,
+        classes_after: &[u32],
+        row: &mut [u32; ROW_LEN],
+    ) -> Result<(), GrowError>
+        requires grows { Grows self.old }
+        requires is_state { state < length self.old.states.items }
+        requires words { AreWordsTo self.old (state * stride_of self.old.texts.width) }
+        requires after { classes_after.now
+            ≡ symbols_after (texts_of self.old.texts) (word_of (words_of self.old) state) }
+        requires back { LeadBack self.old state 0 row.old }
+        ensures grows { IfOk result (λ _. Grows self.new) }
+        ensures words { IfOk result (λ _. AreWordsTo self.new ((state + 1) * stride_of self.old.texts.width)) }
+        ensures on { IfOk result (λ _. LeadOn self.new state self.old.texts.width row.new) }
+        ensures too_many { IfErr result (λ error. error ≡ GrowError.TooManyStates
+            → HasTooManyStates (texts_of self.old.texts) self.old.texts.width) }
+        ensures kept { IfOk result (λ _. IsLonger (words_of self.old) (words_of self.new)) }
+        ensures same { IfOk result (λ _. (self.new.texts ≡ self.old.texts) × (self.new.rows ≡ self.old.rows)) }
+    {
+        let width = self.texts.width as u32;
+        let mut class = smallest_from(classes_after, 0, width);
+        while class < width {
+            self.put_next(state, class as u8, classes_after, row)?;
+            class = smallest_from(classes_after, class + 1, width);
+        }
+        Ok(())
+    }
+
+    /// Adds the row of a state to the rows, whose numbers for all classes are given.
+    fn push_row(&mut self, state: usize, row: &mut [u32; ROW_LEN]) -> Result<(), AllocError>
         requires grows { Grows self.old }
         requires is_state { state < length self.old.states.items }
         requires filled { length self.old.rows.items ≡ state * stride_of self.old.texts.width }
-        requires words { AreWordsIn self.old }
+        requires on { LeadOn self.old state self.old.texts.width row.old }
         ensures grows { IfOk result (λ _. Grows self.new) }
         ensures filled { IfOk result (λ _. length self.new.rows.items ≡ (state + 1) * stride_of self.old.texts.width) }
-        ensures words { IfOk result (λ _. AreWordsIn self.new) }
+        ensures same { IfOk result (λ _. (self.new.texts ≡ self.old.texts) × (self.new.states ≡ self.old.states)) }
+    {
+        row[self.texts.width] = self.states[state].ending;
+        self.rows.extend_from_slice(&row[..self.texts.width + 1])?;
+        Ok(())
+    }
+
+    /// Adds the row of a state. What is in the list and in the row before does not matter.
+    fn add_row(
+        &mut self,
+        state: usize,
+        classes_after: &mut Vec<u32>,
+        row: &mut [u32; ROW_LEN],
+    ) -> Result<(), GrowError>
+        requires grows { Grows self.old }
+        requires is_state { state < length self.old.states.items }
+        requires filled { length self.old.rows.items ≡ state * stride_of self.old.texts.width }
+        requires words { AreWordsTo self.old (state * stride_of self.old.texts.width) }
+        ensures grows { IfOk result (λ _. Grows self.new) }
+        ensures filled { IfOk result (λ _. length self.new.rows.items ≡ (state + 1) * stride_of self.old.texts.width) }
+        ensures words { IfOk result (λ _. AreWordsTo self.new ((state + 1) * stride_of self.old.texts.width)) }
         ensures too_many { IfErr result (λ error. error ≡ GrowError.TooManyStates
             → HasTooManyStates (texts_of self.old.texts) self.old.texts.width) }
         ensures kept { IfOk result (λ _. IsLonger (words_of self.old) (words_of self.new)) }
         ensures same { IfOk result (λ _. self.new.texts ≡ self.old.texts) }
     {
-        let marks = self.marks(state);
-        for class in 0..self.texts.width {
-            self.add_place(state, class as u8, marks[class])?;
-        }
-        let ending = self.states[state].ending;
-        self.push_number(state, self.texts.width, ending)?;
+        self.put_failure_row(state, row);
+        self.put_classes_after(state, classes_after)?;
+        self.put_all_next(state, classes_after, row)?;
+        self.push_row(state, row)?;
         Ok(())
     }
+}
+
+/// The smallest of the numbers from a bound on that is below another bound. If there is none, that other bound.
+fn smallest_from(numbers: &[u32], from: u32, below: u32) -> u32
+    ensures from { from ≤ below → from ≤ result }
+    ensures below { result ≤ below }
+    ensures none { (k : ℕ) → k < length numbers.now → from ≤ slice_index numbers.now k
+        → result ≤ slice_index numbers.now k }
+{
+    let mut smallest = below;
+    for number in numbers {
+        // (without a branch: the loop becomes one over vectors)
+        let candidate = if *number < from { below } else { *number };
+        smallest = smallest.min(candidate);
+    }
+    smallest
 }
 
 /// Where the row of a state begins, from a number in a row.
@@ -433,12 +531,13 @@ fn code_for(place: u32, ending: u32) -> u32
     }
 }
 
-/// The rows for patterns, in classes below the width.
+/// The rows for patterns, in classes below the width. They are made in the memory of a list that is no longer needed.
 pub fn grow(
     alloc: Global,
     classes: &[u8; 256],
     width: usize,
     patterns: &[Vec<u8>],
+    unneeded: Vec<u32>,
 ) -> Result<Vec<u32>, GrowError>
     requires classes { AreClasses classes.now width }
     requires few { length patterns.now ≤ 2 ^ 31 - 1 }
@@ -459,23 +558,27 @@ pub fn grow(
     if texts.has_too_long() {
         return Err(GrowError::TooManyStates);
     }
-    let mut growing = start(alloc, texts)?;
+    let mut growing = start(alloc, texts, unneeded)?;
+    let (mut classes_after, mut row) = (Vec::new(alloc), [0; ROW_LEN]);
     let mut state = 0;
     while state < growing.states.len() {
-        growing.add_row(state)?;
+        growing.add_row(state, &mut classes_after, &mut row)?;
         state += 1;
     }
     Ok(growing.rows)
 }
 
 /// The state of the empty word, and no row.
-fn start<'p>(alloc: Global, texts: Texts<'p>) -> Result<Growing<'p>, AllocError>
+fn start<'p>(alloc: Global, texts: Texts<'p>, unneeded: Vec<u32>) -> Result<Growing<'p>, AllocError>
     requires { AreTexts texts }
     ensures grows { IfOk result (λ growing. Grows growing) }
     ensures start { IfOk result (λ growing. growing.rows.items ≡ []) }
     ensures words { IfOk result (λ growing. words_of growing ≡ [] ∷ []) }
     ensures texts { IfOk result (λ growing. growing.texts ≡ texts.entry) }
 {
+    let mut rows = unneeded;
+    rows.clear();
+    rows.reserve(texts.first_room())?;
     let lists = numbers(alloc, texts.patterns.len())?;
     let mut states = Vec::new(alloc);
     states.push(State {
@@ -490,7 +593,7 @@ fn start<'p>(alloc: Global, texts: Texts<'p>) -> Result<Growing<'p>, AllocError>
         texts,
         states,
         lists,
-        rows: Vec::new(alloc),
+        rows,
     })
 }
 

@@ -5,9 +5,9 @@ ghost use Rattle.literal_search.specs.Inside.Prepared.{IsPut, numbers_for};
 ghost use Rattle.literal_search.specs.Prepared.{ArePrints, AreShort};
 ghost use Rattle.literal_search.specs.Inside.Kept.{numbers_kept};
 
-use crate::classes::{CLASSES_LEN, Classes};
+use crate::classes::Classes;
 use crate::prepared::{
-    ArrayTooShort, LENGTHS_AT, NO_LISTED, NO_PATTERN, SCAN_LEN, put_numbers, scan_numbers, write,
+    ArrayTooShort, NO_LISTED, NO_PATTERN, SCAN_LEN, assemble, put_numbers, scan_numbers,
 };
 use crate::shortest_len;
 use literal_fingerprints::CandidateScan;
@@ -41,33 +41,30 @@ impl Numbers {
         Numbers { kept, listed }
     }
 
-    /// The numbers of a search of a version, as [`write`] writes them.
-    pub fn written(
+    /// The numbers of a search of a version, as [`assemble`] makes them.
+    pub fn assembled(
         alloc: Global,
         version: u32,
         classes: &Classes,
         patterns: &[Vec<u8>],
-        rows: &[u32],
+        rows: Vec<u32>,
         starts: &[usize],
         ends: &[u32],
         prints: &[u32; SCAN_LEN],
     ) -> Result<Numbers, AllocError>
         requires width { classes.now.width < 2 ^ 32 }
         requires patterns { length patterns.now ≤ 2 ^ 31 - 1 }
-        requires rows { length rows.now ≤ 2 ^ 31 - 1 }
+        requires rows { length rows.items ≤ 2 ^ 31 - 1 }
         requires starts { length starts.now ≤ 2 ^ 32 }
         requires ends { length ends.now < 2 ^ 32 }
         requires inside { (i : ℕ) → slice_index starts.now i ≤ length ends.now }
         requires short { AreShort (map (λ pattern. pattern.items) patterns.now) }
         ensures { IfOk result (λ numbers. numbers ≡ numbers_for version classes.now.table classes.now.width
-            (map (λ pattern. pattern.items) patterns.now) rows.now starts.now (ends.now ++ prints.now)) }
+            (map (λ pattern. pattern.items) patterns.now) rows.items starts.now (ends.now ++ prints.now)) }
     {
-        let lists_at = LENGTHS_AT + patterns.len() + rows.len() + CLASSES_LEN;
-        let needed = lists_at + starts.len() + ends.len() + SCAN_LEN;
-        let mut kept = vec![in alloc; 0u32; needed]?;
-        write(
-            version, classes, patterns, rows, starts, ends, prints, &mut kept,
-        );
+        let kept = assemble(
+            alloc, version, classes, patterns, rows, starts, ends, prints,
+        )?;
         let listed = !starts.is_empty();
         Ok(Numbers { kept, listed })
     }

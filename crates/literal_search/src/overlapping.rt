@@ -292,7 +292,13 @@ fn numbers_of(alloc: Global, ignore_case: bool, patterns: &[Vec<u8>]) -> Result<
         return Ok(Numbers::for_none(alloc, true));
     }
     let classes = classes_for(ignore_case, patterns);
-    let rows = grow(alloc, &classes.table, classes.width, patterns)?;
+    let rows = grow(
+        alloc,
+        &classes.table,
+        classes.width,
+        patterns,
+        Vec::new(alloc),
+    )?;
     let recognised = Recognised {
         classes: &classes.table,
         width: classes.width,
@@ -306,8 +312,8 @@ fn numbers_of(alloc: Global, ignore_case: bool, patterns: &[Vec<u8>]) -> Result<
     }
     let prints = prints_for(ignore_case, patterns);
     let version = OVERLAPPING_VERSION;
-    let numbers = Numbers::written(
-        alloc, version, &classes, patterns, &rows, starts, ends, &prints,
+    let numbers = Numbers::assembled(
+        alloc, version, &classes, patterns, rows, starts, ends, &prints,
     )?;
     Ok(numbers)
 }

@@ -1,12 +1,13 @@
 //! A search as numbers in an array that its caller lends: written once, and then searched by, with no memory of its
 //! own. A search does not trust the array: where a number leads out of it, the search says so.
 ghost use Rattle.std.specs.Prelude.{◌≡◌, ◌+◌, ◌-◌, ◌*◌, ◌<◌, ◌≤◌, ◌^◌, ◌↔◌, ◌++◌, [], ◌∷◌, length, map};
-ghost use Rattle.std.specs.Prelude.{ℕ, IsTrue, MatchOption, MatchResult};
+ghost use Rattle.std.specs.Prelude.{ℕ, IfOk, IsTrue, MatchOption, MatchResult};
 ghost use Rattle.std.specs.Prelude.{min, slice_index, slice_range};
 ghost use Rattle.std.specs.Int.{from_le_bytes, w32};
 ghost use Rattle.std.specs.List.{repeat};
 ghost use Rattle.literal_search.specs.Prepared.{AreShort, HasParts};
 ghost use Rattle.literal_search.specs.Prepared.{check_of, pair_of, scan_by, shortest_by};
+ghost use Rattle.literal_search.specs.SearchValue.{longest_of};
 ghost use Rattle.literal_search.specs.Inside.Prepared.{IsHeader, Puts, numbers_for, header_table};
 ghost use Rattle.literal_search.specs.Inside.Packed.{packed, unpacked};
 ghost use Rattle.literal_search.specs.Inside.Rows.{packed_classes};
@@ -18,6 +19,7 @@ use literal_base::count::Tally;
 use literal_base::{Match, Span};
 use literal_fingerprints::{BYTES, CandidateScan, Fingerprints, PAIR_BYTES, RarePair};
 use literal_ids::PatternID;
+use std::alloc::{AllocError, Global};
 use std::error::Error;
 use std::fmt;
 use std::marker::Model;
@@ -274,52 +276,64 @@ pub(crate) fn unpack(numbers: &[u32], bytes: &mut [u8])
     }
 }
 
-/// Writes a search of a version into the first places of an array. Behind its rows and classes may stand lists, of
-/// which `starts` says where each begins, and behind all others the numbers of its scan for candidates.
-pub fn write(
+/// Makes the numbers of a search of a version around its rows, in their list, so that the rows are in memory once.
+/// Behind the rows and classes may stand lists, of which `starts` says where each begins, and behind all others the
+/// numbers of its scan for candidates.
+pub fn assemble(
+    alloc: Global,
     version: u32,
     classes: &Classes,
     patterns: &[Vec<u8>],
-    rows: &[u32],
+    rows: Vec<u32>,
     starts: &[usize],
     ends: &[u32],
     prints: &[u32; SCAN_LEN],
-    array: &mut [u32],
-)
+) -> Result<Vec<u32>, AllocError>
     requires width { classes.now.width < 2 ^ 32 }
     requires patterns { length patterns.now < 2 ^ 32 }
-    requires rows { length rows.now < 2 ^ 32 }
+    requires rows { length rows.items < 2 ^ 32 }
     requires starts { length starts.now ≤ 2 ^ 32 }
     requires ends { length ends.now < 2 ^ 32 }
     requires inside { (i : ℕ) → slice_index starts.now i ≤ length ends.now }
     requires short { AreShort (map (λ pattern. pattern.items) patterns.now) }
-    requires room { LENGTHS_AT + length patterns.now + length rows.now + CLASSES_LEN + length starts.now
-        + length ends.now + SCAN_LEN ≤ length array.old }
-    ensures { Puts 0 (numbers_for version classes.now.table classes.now.width
-        (map (λ pattern. pattern.items) patterns.now) rows.now starts.now (ends.now ++ prints.now)) array.old
-        array.new }
+    ensures { IfOk result (λ numbers. numbers.items ≡ numbers_for version classes.now.table classes.now.width
+        (map (λ pattern. pattern.items) patterns.now) rows.items starts.now (ends.now ++ prints.now)) }
 {
-    let longest = longest_len(patterns);
-    let rows_at = LENGTHS_AT + patterns.len();
-    let classes_at = rows_at + rows.len();
-    let starts_at = classes_at + CLASSES_LEN;
-    let ends_at = starts_at + starts.len();
-    let prints_at = ends_at + ends.len();
-    let end = prints_at + SCAN_LEN;
-    let width = classes.width as u32;
-    let (count, places) = (patterns.len() as u32, rows.len() as u32);
-    put_numbers(
-        array,
-        0,
-        &[version, 0, width, count, places, longest as u32],
-    );
-    put_lengths(array, patterns);
-    put_numbers(array, rows_at, rows);
-    put_classes(array, classes_at, &classes.table);
-    put_starts(array, starts_at, starts);
-    put_numbers(array, ends_at, ends);
-    put_numbers(array, prints_at, prints);
-    array[1] = check_over(&array[2..end]);
+    let (width, places) = (classes.width as u32, rows.len() as u32);
+    let header = header_for(alloc, version, width, places, patterns)?;
+    let mut numbers = rows;
+    numbers.reserve_exact(header.len() + CLASSES_LEN + starts.len() + ends.len() + SCAN_LEN)?;
+    let none = numbers.splice(0..0, header)?;
+    drop(none);
+    push_classes(&mut numbers, &classes.table)?;
+    push_starts(&mut numbers, starts)?;
+    numbers.extend_from_slice(ends)?;
+    numbers.extend_from_slice(prints)?;
+    numbers.shrink_to_fit();
+    numbers[1] = check_over(&numbers[2..]);
+    Ok(numbers)
+}
+
+/// The numbers before the rows, with 0 for the check.
+fn header_for(
+    alloc: Global,
+    version: u32,
+    width: u32,
+    places: u32,
+    patterns: &[Vec<u8>],
+) -> Result<Vec<u32>, AllocError>
+    requires patterns { length patterns.now < 2 ^ 32 }
+    requires short { AreShort (map (λ pattern. pattern.items) patterns.now) }
+    ensures { IfOk result (λ header. header.items ≡ version ∷ 0 ∷ width ∷ length patterns.now ∷ places
+        ∷ longest_of (map (λ pattern. pattern.items) patterns.now)
+        ∷ map (λ pattern. length pattern.items) patterns.now) }
+{
+    let (count, longest) = (patterns.len() as u32, longest_len(patterns) as u32);
+    let mut header = Vec::from_slice(alloc, &[version, 0, width, count, places, longest])?;
+    for pattern in patterns {
+        header.push(pattern.len() as u32)?;
+    }
+    Ok(header)
 }
 
 /// Writes numbers into an array, from a place on.
@@ -330,37 +344,25 @@ pub(crate) fn put_numbers(array: &mut [u32], at: usize, numbers: &[u32])
     array[at..at + numbers.len()].copy_from_slice(numbers);
 }
 
-/// Writes the lengths of the patterns.
-fn put_lengths(array: &mut [u32], patterns: &[Vec<u8>])
-    requires room { LENGTHS_AT + length patterns.now ≤ length array.old }
-    requires short { AreShort (map (λ pattern. pattern.items) patterns.now) }
-    ensures { Puts LENGTHS_AT (map (λ pattern. length pattern.items) patterns.now) array.old array.new }
-{
-    for (i, pattern) in patterns.iter().enumerate() {
-        array[LENGTHS_AT + i] = pattern.len() as u32;
-    }
-}
-
-/// Writes the class of each byte, from a place on.
-fn put_classes(array: &mut [u32], at: usize, classes: &[u8; 256])
-    requires { at + CLASSES_LEN ≤ length array.old }
-    ensures { Puts at (packed_classes classes.now) array.old array.new }
+/// Adds the class of each byte to numbers.
+fn push_classes(numbers: &mut Vec<u32>, classes: &[u8; 256]) -> Result<(), AllocError>
+    ensures { IfOk result (λ _. numbers.new.items ≡ numbers.old.items ++ packed_classes classes.now) }
 {
     let mut packed = [0; CLASSES_LEN];
     pack(classes, &mut packed[..PACKED_LEN]);
-    put_numbers(array, at, &packed);
+    numbers.extend_from_slice(&packed)?;
+    Ok(())
 }
 
-/// Writes where lists begin, from a place on.
-#[tactic(auto, using(crate::proofs::lemmas::Written::puts_next))]
-fn put_starts(array: &mut [u32], at: usize, starts: &[usize])
-    requires room { at + length starts.now ≤ length array.old }
-    requires short { (i : ℕ) → slice_index starts.now i < 2 ^ 32 }
-    ensures { Puts at starts.now array.old array.new }
+/// Adds where lists begin to numbers.
+fn push_starts(numbers: &mut Vec<u32>, starts: &[usize]) -> Result<(), AllocError>
+    requires { (i : ℕ) → slice_index starts.now i < 2 ^ 32 }
+    ensures { IfOk result (λ _. numbers.new.items ≡ numbers.old.items ++ starts.now) }
 {
-    for (i, start) in starts.iter().enumerate() {
-        array[at + i] = *start as u32;
+    for start in starts {
+        numbers.push(*start as u32)?;
     }
+    Ok(())
 }
 
 /// A check over numbers.

@@ -525,7 +525,7 @@ fn numbers_of(
     let rows = backward_rows(alloc, kind, &classes, patterns)?;
     let prints = prints_for(ignore_case, patterns);
     let version = PREPARED_VERSION;
-    let numbers = Numbers::written(alloc, version, &classes, patterns, &rows, &[], &[], &prints)?;
+    let numbers = Numbers::assembled(alloc, version, &classes, patterns, rows, &[], &[], &prints)?;
     Ok(numbers)
 }
 

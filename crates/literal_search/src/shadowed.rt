@@ -6,7 +6,7 @@ ghost use Rattle.literal_search.specs.SearchValue.{CanBeKept, reversed, unshadow
 ghost use Rattle.literal_search.specs.States.{HasTooManyStates};
 ghost use Rattle.literal_search.specs.Inside.Classes.{AreClasses};
 ghost use Rattle.literal_search.specs.Inside.Shadowed.{AreFirst, AreRowsFor, IsFirstOf, texts_by};
-ghost use Rattle.literal_search.specs.Inside.Lists.{AreOutputLinks, Recognise, symbols_of};
+ghost use Rattle.literal_search.specs.Inside.Lists.{AreLongest, AreOutputLinks, Recognise, symbols_of};
 
 use crate::classes::Classes;
 use crate::grow::{GrowError, grow};
@@ -33,7 +33,13 @@ pub(crate) fn backward_rows(
 {
     let copies = backward_copies(alloc, patterns)?;
     let backward = copies.as_slice();
-    let rows = grow(alloc, &classes.table, classes.width, backward)?;
+    let rows = grow(
+        alloc,
+        &classes.table,
+        classes.width,
+        backward,
+        Vec::new(alloc),
+    )?;
     match kind {
         MatchKind::LeftmostFirst => first_rows(alloc, classes, patterns, backward, rows),
         MatchKind::LeftmostLongest => Ok(rows),
@@ -69,9 +75,8 @@ fn first_rows(
     if !has_shadowed(patterns, &firsts) {
         return Ok(rows);
     }
-    drop(rows);
     let copies = copies_of(alloc, patterns, &firsts)?;
-    grow(alloc, &classes.table, classes.width, &copies)
+    grow(alloc, &classes.table, classes.width, &copies, rows)
 }
 
 impl<'p> Recognised<'p> {
@@ -81,22 +86,24 @@ impl<'p> Recognised<'p> {
         ensures { IfOk result (λ firsts. AreFirst (symbols_of self.now) firsts.items
             (length self.now.patterns.now)) }
     {
-        let links = self.links(alloc)?;
+        let longest = self.longest(alloc)?;
+        let links = self.links(alloc, &longest)?;
         let mut firsts = Vec::new(alloc);
         for pattern in 0..self.patterns.len() {
-            firsts.push(self.first_suffix(&links, pattern))?;
+            firsts.push(self.first_suffix(&links, &longest, pattern))?;
         }
         Ok(firsts)
     }
 
     /// The smallest number of a pattern that is a suffix of one.
-    fn first_suffix(&self, links: &[u32], pattern: usize) -> u32
+    fn first_suffix(&self, links: &[u32], longest: &[u32], pattern: usize) -> u32
         requires recognise { Recognise self.now }
+        requires longest { AreLongest (symbols_of self.now) longest.now (length self.now.patterns.now) }
         requires links { AreOutputLinks (symbols_of self.now) links.now 0 }
         requires is_pattern { pattern < length self.now.patterns.now }
         ensures { IsFirstOf (symbols_of self.now) (pattern_at (symbols_of self.now) pattern) result }
     {
-        let mut next = self.longest_suffix(pattern, 0);
+        let mut next = longest[pattern];
         let mut smallest = next;
         while next != NOTHING {
             smallest = smallest.min(next);

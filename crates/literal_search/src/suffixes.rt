@@ -5,7 +5,7 @@ ghost use Rattle.literal_base.specs.Occurs.{pattern_at};
 ghost use Rattle.literal_search.specs.Table.{nothing};
 ghost use Rattle.literal_search.specs.Words.{ending};
 ghost use Rattle.literal_search.specs.Inside.Suffixes.{AreSuffixes};
-ghost use Rattle.literal_search.specs.Inside.Lists.{AreOutputLinks, AreLists, Recognise, symbols_of};
+ghost use Rattle.literal_search.specs.Inside.Lists.{AreLists, AreLongest, AreOutputLinks, Recognise, symbols_of};
 
 use crate::walk::{ENDS, NOTHING};
 use std::alloc::{AllocError, Global};
@@ -44,16 +44,30 @@ impl<'p> Recognised<'p> {
         self.rows[place + self.width]
     }
 
-    /// For each pattern the next that is a suffix of it: one of its equals that comes later, or else a shorter one.
-    pub(crate) fn links(&self, alloc: Global) -> Result<Vec<u32>, AllocError>
+    /// For each pattern the longest that is a suffix of it: itself, or the first of its equals.
+    pub(crate) fn longest(&self, alloc: Global) -> Result<Vec<u32>, AllocError>
         requires { Recognise self.now }
+        ensures { IfOk result (λ longest. AreLongest (symbols_of self.now) longest.items
+            (length self.now.patterns.now)) }
+    {
+        let mut longest = Vec::new(alloc);
+        for pattern in 0..self.patterns.len() {
+            longest.push(self.longest_suffix(pattern, 0))?;
+        }
+        Ok(longest)
+    }
+
+    /// For each pattern the next that is a suffix of it: one of its equals that comes later, or else a shorter one.
+    pub(crate) fn links(&self, alloc: Global, longest: &[u32]) -> Result<Vec<u32>, AllocError>
+        requires recognise { Recognise self.now }
+        requires longest { AreLongest (symbols_of self.now) longest.now (length self.now.patterns.now) }
         ensures { IfOk result (λ links. AreOutputLinks (symbols_of self.now) links.items 0) }
     {
         let count = self.patterns.len();
         let mut links = vec![in alloc; NOTHING; count]?;
         let mut heads = vec![in alloc; NOTHING; count]?;
         for pattern in (0..count).rev() {
-            let first = self.longest_suffix(pattern, 0) as usize;
+            let first = longest[pattern] as usize;
             let equal = heads[first];
             let link = if equal == NOTHING {
                 self.longest_suffix(pattern, 1)
@@ -71,9 +85,11 @@ impl<'p> Recognised<'p> {
         &self,
         alloc: Global,
         links: &[u32],
+        longest: &[u32],
         pattern: usize,
     ) -> Result<Vec<u32>, AllocError>
         requires recognise { Recognise self.now }
+        requires longest { AreLongest (symbols_of self.now) longest.now (length self.now.patterns.now) }
         requires links { AreOutputLinks (symbols_of self.now) links.now 0 }
         requires is_pattern { pattern < length self.now.patterns.now }
         ensures ends { IfOk result (λ list. ending (symbols_of self.now)
@@ -84,7 +100,7 @@ impl<'p> Recognised<'p> {
             (pattern_at (symbols_of self.now) pattern) ≡ Some pattern) → list.items ≡ []) }
     {
         let mut list = Vec::new(alloc);
-        if self.longest_suffix(pattern, 0) as usize != pattern {
+        if longest[pattern] as usize != pattern {
             return Ok(list);
         }
         let mut next = pattern as u32;
@@ -103,13 +119,14 @@ impl<'p> Recognised<'p> {
         ensures { IfOk result (λ lists. AreLists (symbols_of self.now) lists.ends.items lists.starts.items
             (length self.now.patterns.now)) }
     {
-        let links = self.links(alloc)?;
+        let longest = self.longest(alloc)?;
+        let links = self.links(alloc, &longest)?;
         let mut lists = Lists {
             ends: Vec::new(alloc),
             starts: vec![in alloc; 0usize; 1]?,
         };
         for pattern in 0..self.patterns.len() {
-            let list = self.suffixes_of(alloc, &links, pattern)?;
+            let list = self.suffixes_of(alloc, &links, &longest, pattern)?;
             lists.push(&list)?;
         }
         Ok(lists)

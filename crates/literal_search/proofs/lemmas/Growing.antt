@@ -1,9 +1,11 @@
 -- States, lists and rows, as they grow.
 use Rattle.std.proofs.lemmas.Grind.{common_steps}
 use Rattle.std.proofs.Common.{◌≡◌, ℕ, ◌+◌, ◌*◌, ◌-◌, ◌<◌, ◌≤◌, ◌^◌, List, [], ◌∷◌, ◌++◌, length, get_or, inl, inr, refl}
+use Rattle.std.proofs.Common.{◌≢◌, get_or-take, map, set, take, get_or-set_other, get_or-set_same}
 use Rattle.std.proofs.Common.{sym, ap, ◌∙◌, arith, subst, ◌/◌, Option, None, Some}
-use Rattle.std.proofs.lemmas.Bool.{cases_eq, cases_lt}
-use Rattle.std.proofs.lemmas.List.{drop-append-le, get_or-map, get_or_append_left, get_or_push, length-drop, length-map}
+use Rattle.std.proofs.lemmas.Bool.{cases_lt}
+use Rattle.std.proofs.lemmas.List.{drop-append-le, get_or-append_right, get_or-map, get_or_append_left, get_or_push}
+use Rattle.std.proofs.lemmas.List.{length-drop, length-map}
 use Rattle.std.proofs.lemmas.List.{length_push, length-append, take-append-le, take_all}
 use Rattle.std.proofs.lemmas.List.FromFn.{get_or-range_with_len, length-range_with_len}
 use Rattle.std.proofs.lemmas.Nat.{mul-add-lt, same_from_place, div-mul-add}
@@ -12,16 +14,16 @@ use Rattle.std.specs.List.{range_with_len}
 use Rattle.std.specs.Option.{unwrap_or, IfSome, option_or}
 use Rattle.literal_search.specs.Table.{LeadsTo, Recognises, nothing, stride_of, code_of}
 use Rattle.literal_search.specs.Words.{ending, live_suffix, word_of, first_equal}
-use Rattle.literal_search.specs.Inside.Grown.{AreRows, AreWords, IsLonger, failure_of, list_for}
+use Rattle.literal_search.specs.Inside.Grown.{AreRows, IsLonger, failure_of, list_for, symbols_after}
 use Rattle.literal_search.specs.Inside.Growing.{AreTexts, IsGrowing, IsStateAt, list_in, texts_of, word_in, words_in}
-use Rattle.literal_search.specs.Inside.Growing.{words_of, HasFailure}
+use Rattle.literal_search.specs.Inside.Growing.{words_of, HasFailure, LeadBack, LeadOn, LeadsIn, word_behind}
 use Rattle.literal_search.specs.declared.grow.Growing.{Growing}
 use Rattle.literal_search.specs.declared.grow.State.{State}
 use Rattle.literal_search.specs.declared.grow.Texts.{Texts}
-use Rattle.literal_search.proofs.lemmas.Grown.{list_of_empty}
+use Rattle.literal_search.proofs.lemmas.Grown.{list_of_empty, none_listed, unbegun_by_list}
 use Rattle.std.proofs.lemmas.Option.{IfSome_then}
 use Rattle.literal_base.specs.Occurs.{pattern_at}
-use Rattle.literal_search.proofs.lemmas.Behind.{ending_is_pattern, ending_next, failure_push}
+use Rattle.literal_search.proofs.lemmas.Behind.{ending_is_pattern, ending_next, failure_push, live_unbegun}
 
 -- an element with one more behind the last
 old_at : {A : Type 0} (xs : List A) (x d : A) (k : ℕ) → k < length xs → get_or (xs ++ x ∷ []) k d ≡ get_or xs k d
@@ -132,59 +134,68 @@ module _ (t : Texts) where
         led = grind (arith, rows_longer);
       }
 
+  -- a place in the last row
+  at_last : (rows last : List ℕ) (state n c : ℕ) → length rows ≡ state * stride_of t.width
+      → length last ≡ stride_of t.width → c < stride_of t.width → length rows ≤ n * stride_of t.width + c
+      → n * stride_of t.width + c < length (rows ++ last)
+      → (state ≡ n) × (get_or (rows ++ last) (n * stride_of t.width + c) 0 ≡ get_or last c 0)
+  at_last rows last state n c full long below late inside =
+      let at = n * stride_of t.width + c in
+      let more = length-append rows last in
+      let same = same_from_place state (at - length rows) n c (stride_of t.width)
+      (omega (arith, more, full, long, late, inside)) below (omega (arith, full, late)) in (
+        same.0,
+        get_or-append_right rows last (length rows) at 0 refl late ∙ ap (λ k. get_or last k 0) same.1,
+      )
+
   -- a number leads on from a state with a symbol
   abbrev LeadsFrom : List State → ℕ → ℕ → ℕ → Type 0
   LeadsFrom states state symbol number =
       LeadsTo (texts_of t) (words_in t states) t.width number
       (live_suffix (texts_of t) (word_of (words_in t states) state ++ symbol ∷ []))
 
-  -- one number more in the rows: that for a state and a symbol, or what ends there
-  pub grown_number : (states : List State) (lists rows : List ℕ) (state symbol number : ℕ)
-      → IsGrowing t states lists rows → length rows ≡ state * stride_of t.width + symbol → state < length states
-      → symbol ≤ t.width
-      → (symbol < t.width → LeadsFrom states state symbol number)
-      → (symbol ≡ t.width → number ≡ unwrap_or (ending (texts_of t) (word_of (words_in t states) state)) nothing)
-      → IsGrowing t states lists (rows ++ number ∷ [])
-  grown_number states lists rows state symbol number g full is_state is_symbol leads ends =
-      let more = length_push rows number in
+  -- one row more: for each symbol a number that leads on from a state, and behind these what ends there
+  grown_row : (states : List State) (lists rows last : List ℕ) (state : ℕ)
+      → IsGrowing t states lists rows → length rows ≡ state * stride_of t.width → state < length states
+      → length last ≡ stride_of t.width
+      → ((symbol : ℕ) → symbol < t.width → LeadsFrom states state symbol (get_or last symbol 0))
+      → get_or last t.width 0 ≡ unwrap_or (ending (texts_of t) (word_of (words_in t states) state)) nothing
+      → IsGrowing t states lists (rows ++ last)
+  grown_row states lists rows last state g full is_state long leads ends =
+      let fits = mul-add-lt state (stride_of t.width) t.width (length states) is_state (omega arith) in
       record {
         texts = g.texts;
         some = g.some;
         root = g.root;
         few = g.few;
-        filled =
-            let fits = mul-add-lt state (stride_of t.width) symbol (length states) is_state (omega arith) in
-            omega (arith, more, full, fits);
+        filled = omega (arith, length-append rows last, full, long, fits);
         numbers = g.numbers;
         each = g.each;
         led = record {
-          leads = λ n c below inside. elim (cases_eq (n * stride_of t.width + c) (length rows)) [
-            | inl at ↦
-                let same = same_from_place state symbol n c (stride_of t.width) (omega arith) (omega arith)
-                (sym full ∙ sym at) in
-                let last = get_or_push rows number 0 (n * stride_of t.width + c) (sym at) in
-                subst (LeadsFrom states n c) (sym last)
-                (subst (λ m. LeadsFrom states m c number) same.0
-                (subst (λ s. LeadsFrom states state s number) same.1 (leads (omega (arith, same.1, below)))))
-            | inr isnt ↦
-                let before : n * stride_of t.width + c < length rows = omega (arith, more, inside, isnt) in
-                subst (LeadsFrom states n c)
-                (sym (old_at rows number 0 (n * stride_of t.width + c) before))
-                (g.led.leads n c below before)
-          ];
-          ends = λ n inside. elim (cases_eq (n * stride_of t.width + t.width) (length rows)) [
-            | inl at ↦
-                let same = same_from_place state symbol n t.width (stride_of t.width) (omega arith) (omega arith)
-                (sym full ∙ sym at) in
-                get_or_push rows number 0 (n * stride_of t.width + t.width) (sym at)
-                ∙ (ends same.1
-                ∙ ap (λ x. unwrap_or (ending (texts_of t) (word_of (words_in t states) x)) nothing) same.0)
-            | inr isnt ↦
-                let before : n * stride_of t.width + t.width < length rows = omega (arith, more, inside, isnt) in
-                old_at rows number 0 (n * stride_of t.width + t.width) before ∙ g.led.ends n before
-          ];
+          leads = grind (arith, cases_lt, get_or_append_left, at_last);
+          ends = grind (arith, cases_lt, get_or_append_left, at_last);
         };
       }
+
+  -- from a list of numbers for at least all symbols
+  pub row_pushed : (states : List State) (lists rows longer row whole : List ℕ) (state : ℕ) (s : State)
+      → IsGrowing t states lists rows → length rows ≡ state * stride_of t.width → state < length states
+      → s ≡ get_or states state s → t.width < length row → whole ≡ take (t.width + 1) (set row t.width s.ending)
+      → longer ≡ rows ++ whole
+      → ((symbol : ℕ) → symbol < t.width → symbol < t.width → LeadsFrom states state symbol (get_or row symbol 0))
+      → IsGrowing t states lists longer
+  row_pushed states lists rows longer row whole state s g full is_state is long cut more on =
+      let at = λ (symbol : ℕ) (below : symbol < t.width + 1).
+      ap (λ l. get_or l symbol 0) cut ∙ get_or-take (t.width + 1) (set row t.width s.ending) symbol 0 below in
+      subst (IsGrowing t states lists) (sym more)
+      (grown_row states lists rows whole state g full is_state
+      (ap (λ (l : List ℕ). length l) cut ∙ grind (arith, common_steps))
+      (λ symbol below.
+      let other : symbol ≢ t.width = omega arith in
+      subst (LeadsFrom states state symbol) (sym (at symbol (omega arith)))
+      (rw get_or-set_other (on symbol below below)))
+      (at t.width (omega arith) ∙ (get_or-set_same row t.width s.ending 0 long
+      ∙ grind (arith, common_steps, word_at))))
 
   -- the state of the empty word
   pub grown_start : (s : State) → AreTexts t → s.depth ≡ 0 → s.start ≡ 0 → s.end ≡ length t.patterns.now
@@ -221,16 +232,6 @@ pub words_same : (g g' : Growing) → g'.texts ≡ g.texts → g'.states ≡ g.s
 words_same g g' texts states =
     ap (λ t. words_in t g'.states.items) texts ∙ ap (λ (s : Vec State). words_in g.texts s.items) states
 
-pub words_kept : (g g' : Growing) (upto : ℕ) → g'.texts ≡ g.texts → g'.states ≡ g.states
-    → AreWords (texts_of g.texts) (words_of g) g.texts.width upto
-    → AreWords (texts_of g'.texts) (words_of g') g'.texts.width upto
-words_kept g g' upto texts states are = grind arith
-
--- a row lies whole in rows that are not too long
-row_inside : (state states width : ℕ) → state < states → states * stride_of width ≤ 2 ^ 31 - 1
-    → state * stride_of width + stride_of width ≤ 2 ^ 31 - 1
-row_inside state states width is_state few = grind arith
-
 module _ (t : Texts) (states : List State) (lists rows : List ℕ) (g : IsGrowing t states lists rows) where
   -- a number that leads to a state: its row
   pub row_of : (code : ℕ) (word : List ℕ) (to : LeadsTo (texts_of t) (words_in t states) t.width code word)
@@ -250,33 +251,33 @@ module _ (t : Texts) (states : List State) (lists rows : List ℕ) (g : IsGrowin
       → length (word_of (words_in t states) n) ≡ (get_or states n d).depth
   long_word n d below = grind (arith, common_steps)
 
-  -- and of the word of a later state with one symbol more
-  pub link_of_next : (n symbol : ℕ) (d : State) → 0 < n → n < length states → symbol < t.width
-      → n * stride_of t.width ≤ length rows
-      → (place : ℕ) × (pattern : Option ℕ) × ((get_or states n d).failure ≡ code_of place pattern) × (place < 2 ^ 31)
-      × (place + symbol < length rows)
-      × LeadsTo (texts_of t) (words_in t states) t.width (get_or rows (place + symbol) 0)
-      (failure_of (texts_of t) (word_of (words_in t states) n ++ symbol ∷ []))
-  link_of_next n symbol d later below is_symbol filled =
-      let link = failure_is n d later below in
+  -- and those of the word of a later state with one symbol more: they are in the row of its failure state
+  pub link_row : (n : ℕ) (s : State) → 0 < n → n < length states → n * stride_of t.width ≤ length rows
+      → s ≡ get_or states n s → (place : ℕ)
+      → ((p : ℕ) (pattern : Option ℕ) → p < 2 ^ 31 → s.failure ≡ code_of p pattern → place ≡ p)
+      → (place + t.width ≤ length rows)
+      × ((symbol : ℕ) → symbol < t.width → LeadsTo (texts_of t) (words_in t states) t.width
+      (get_or rows (place + symbol) 0) (failure_of (texts_of t) (word_of (words_in t states) n ++ symbol ∷ [])))
+  link_row n s later below filled is place read =
+      let link = failure_is n s later below in
       let word = word_of (words_in t states) n in
-      let row = row_of (get_or states n d).failure _ link.to in
-      let fits = mul-add-lt link.to.state (stride_of t.width) symbol n link.earlier (omega arith) in
-      let inside : link.to.state * stride_of t.width + symbol < length rows = omega (arith, fits, filled) in
-      let same : word_of (words_in t states) link.to.state ≡ failure_of (texts_of t) word =
-      grind (arith, common_steps) in (
-        link.to.state * stride_of t.width,
-        ending (texts_of t) (failure_of (texts_of t) (word_in (texts_of t) (get_or states n d))),
-        link.to.code_is,
-        row.1,
-        inside,
-        grind (arith, failure_push, long_word),
+      let from = link.to.state in
+      let row = row_of (get_or states n s).failure _ link.to in
+      let at : place ≡ from * stride_of t.width =
+      read (from * stride_of t.width) _ row.1 (ap (λ (x : State). x.failure) is ∙ link.to.code_is) in
+      let same : word_of (words_in t states) from ≡ failure_of (texts_of t) word =
+      grind (arith, common_steps) in
+      let whole = mul-add-lt from (stride_of t.width) t.width n link.earlier (omega arith) in (
+        omega (arith, at, whole, filled),
+        λ symbol is_symbol.
+            let next : live_suffix (texts_of t) (word_of (words_in t states) from ++ symbol ∷ [])
+            ≡ failure_of (texts_of t) (word ++ symbol ∷ []) =
+            grind (arith, failure_push, long_word) in
+            subst (λ p. LeadsTo (texts_of t) (words_in t states) t.width (get_or rows (p + symbol) 0)
+            (failure_of (texts_of t) (word ++ symbol ∷ []))) (sym at)
+            (subst (LeadsTo (texts_of t) (words_in t states) t.width _) next
+            (g.led.leads from symbol is_symbol (omega (arith, whole, filled)))),
       )
-
-  -- the ending of the state to which a number leads
-  pub ending_at : (code : ℕ) (word : List ℕ) (to : LeadsTo (texts_of t) (words_in t states) t.width code word)
-      → (d : State) → (get_or states to.state d).ending ≡ unwrap_or (ending (texts_of t) word) nothing
-  ending_at code word to d = grind (arith, common_steps)
 
   -- the ending of the state at which a number's row begins
   pub ending_by_place : (code place : ℕ) (s : State)
@@ -294,6 +295,77 @@ module _ (t : Texts) (states : List State) (lists rows : List ℕ) (g : IsGrowin
       → list_in lists (get_or states n d) ≡ list_for (texts_of t) (word_of (words_in t states) n)
   list_at n d below =
       (g.each n d below).listed ∙ ap (list_for (texts_of t)) (sym (word_at t states n d below))
+
+  -- the symbols with which the patterns of a state's list go on
+  pub after_is : (n : ℕ) (s : State) → n < length states → s ≡ get_or states n s
+      → map (λ i. get_or (pattern_at (texts_of t) i) s.depth 256) (list_in lists s)
+      ≡ symbols_after (texts_of t) (word_of (words_in t states) n)
+  after_is n s below is =
+      let word = word_of (words_in t states) n in
+      let long : length word ≡ s.depth = long_word n s below ∙ ap (λ (x : State). x.depth) (sym is) in
+      ap (λ d. map (λ i. get_or (pattern_at (texts_of t) i) d 256) (list_in lists s)) (sym long)
+      ∙ ap (map (λ i. get_or (pattern_at (texts_of t) i) (length word) 256))
+      (ap (list_in lists) is ∙ list_at n s below)
+
+-- a number more in a row, behind words that may be more
+module _ (g g' : Growing) (state class code : ℕ) (row : List ℕ) (texts : g'.texts ≡ g.texts)
+    (kept : IsLonger (words_of g) (words_of g')) (is_state : state < length (words_of g))
+    (inside : class < length row) where
+  same_word : word_of (words_of g') state ≡ word_of (words_of g) state
+  same_word = kept.same state is_state
+
+  pub put_on : LeadsTo (texts_of g.texts) (words_of g') g.texts.width code
+      (live_suffix (texts_of g.texts) (word_behind g state class))
+      → LeadOn g state class row → LeadOn g' state (class + 1) (set row class code)
+  put_on leads on =
+      subst (λ (t : Texts). (symbol : ℕ) → symbol < class + 1 → symbol < t.width
+      → LeadsTo (texts_of t) (words_of g') t.width (get_or (set row class code) symbol 0)
+      (live_suffix (texts_of t) (word_of (words_of g') state ++ symbol ∷ []))) (sym texts)
+      (λ symbol before is_symbol. subst (λ w. LeadsTo (texts_of g.texts) (words_of g') g.texts.width
+      (get_or (set row class code) symbol 0) (live_suffix (texts_of g.texts) (w ++ symbol ∷ []))) (sym same_word)
+      (elim (cases_lt symbol class) [
+        | inl early ↦
+            let other : symbol ≢ class = omega arith in
+            rw get_or-set_other (to_longer (texts_of g.texts) (words_of g) (words_of g') g.texts.width kept _ _
+            (on symbol early is_symbol))
+        | inr late ↦
+            let at : symbol ≡ class = omega arith in
+            grind (arith, common_steps)
+      ]))
+
+  pub put_back : LeadBack g state class row → LeadBack g' state (class + 1) (set row class code)
+  put_back back =
+      subst (λ (t : Texts). (symbol : ℕ) → class + 1 ≤ symbol → symbol < t.width
+      → LeadsTo (texts_of t) (words_of g') t.width (get_or (set row class code) symbol 0)
+      (failure_of (texts_of t) (word_of (words_of g') state ++ symbol ∷ []))) (sym texts)
+      (λ symbol late is_symbol. subst (λ w. LeadsTo (texts_of g.texts) (words_of g') g.texts.width
+      (get_or (set row class code) symbol 0) (failure_of (texts_of g.texts) (w ++ symbol ∷ []))) (sym same_word)
+      (let other : symbol ≢ class = omega arith in
+      rw get_or-set_other (to_longer (texts_of g.texts) (words_of g) (words_of g') g.texts.width kept _ _
+      (back symbol (omega arith) is_symbol))))
+
+-- the numbers of a row lead on for more symbols: no pattern goes on with those from one to the next
+pub passed_over : (g : Growing) (state from next : ℕ) (row symbols : List ℕ)
+    → symbols ≡ symbols_after (texts_of g.texts) (word_of (words_of g) state) → g.texts.width ≤ 256
+    → ((k : ℕ) → k < length symbols → from ≤ get_or symbols k 0 → next ≤ get_or symbols k 0)
+    → LeadOn g state from row → LeadBack g state from row → LeadOn g state next row
+passed_over g state from next row symbols are few none on back symbol before is_symbol =
+    elim (cases_lt symbol from) [
+      | inl early ↦ on symbol early is_symbol
+      | inr late ↦
+          let word = word_of (words_of g) state in
+          let unlisted : list_for (texts_of g.texts) (word ++ symbol ∷ []) ≡ [] =
+          none_listed (texts_of g.texts) word symbol (omega (arith, few, is_symbol))
+          (λ k inside at. absurd (
+          let same = ap (λ (l : List ℕ). get_or l k 0) are in
+          let long = ap (λ (l : List ℕ). length l) are in
+          let past = none k (omega (arith, long, inside)) (omega (arith, same, at, late)) in
+          omega (arith, same, at, past, before))) in
+          subst (LeadsIn g (get_or row symbol 0))
+          (sym (live_unbegun (texts_of g.texts) (word ++ symbol ∷ [])
+          (unbegun_by_list (texts_of g.texts) (word ++ symbol ∷ []) unlisted)))
+          (back symbol late is_symbol)
+    ]
 
 -- what ends with a word with one symbol more
 pub ending_push : (patterns : List (List ℕ)) (word : List ℕ) (symbol : ℕ)

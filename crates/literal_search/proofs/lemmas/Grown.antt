@@ -1,10 +1,12 @@
 -- Words of states, as they grow by a symbol.
 use Rattle.std.proofs.Common.{◌≡◌, ℕ, ◌+◌, ◌<◌, ◌≤◌, Bool, true, false, List, [], ◌∷◌, ◌++◌, length, get_or, Option}
-use Rattle.std.proofs.Common.{None, Some, take, drop, map, nat_eq, ◌&&◌, ltb, eqb, cond, if◌then◌else◌, eq-eqb}
+use Rattle.std.proofs.Common.{None, Some, suc, ◌-◌, take, drop, map, nat_eq, ◌&&◌, ltb, eqb, cond}
+use Rattle.std.proofs.Common.{if◌then◌else◌, eq-eqb}
 use Rattle.std.proofs.Common.{append-nil, append_assoc, refl, sym, ap, ◌∙◌, arith, ◌||◌, not}
-use Rattle.std.proofs.lemmas.Bool.{and_from, and_parts, cond-false, cond-true, eqb-true, lt-ltb, ltb-true, ltb-false}
+use Rattle.std.proofs.lemmas.Bool.{and_from, and_parts, cond-false, cond-true, eqb-true, lt-ltb}
+use Rattle.std.proofs.lemmas.Bool.{ltb-true, ltb-false, ne_eqb}
 use Rattle.std.proofs.lemmas.Bool.Decides.{Decides-eqb}
-use Rattle.std.proofs.lemmas.List.{drop_all, drop_more, get_or_at, length-append, length-map, take_at}
+use Rattle.std.proofs.lemmas.List.{drop_all, drop_more, get_or-map, get_or_at, length-append, length-map, take_at}
 use Rattle.std.proofs.lemmas.List.{get_or_append_left}
 use Rattle.std.proofs.lemmas.List.FromFn.{fill_by_all, get_or-range_with_len, length-range_with_len}
 use Rattle.std.proofs.lemmas.List.Elements.{filter_passes}
@@ -13,7 +15,7 @@ use Rattle.std.specs.List.{filter, find, list_any, position, position_or_len, ra
 use Rattle.std.specs.List.{All, slice_get}
 use Rattle.std.specs.Option.{option_or}
 use Rattle.literal_base.specs.Occurs.{pattern_at}
-use Rattle.literal_search.specs.Inside.Grown.{goes_on, list_for}
+use Rattle.literal_search.specs.Inside.Grown.{goes_on, list_for, symbols_after}
 use Rattle.literal_search.specs.Words.{begins_one, first_equal}
 use Rattle.std.proofs.lemmas.Grind.{common_steps}
 use Rattle.std.proofs.lemmas.Option.{slice_get-get_or, slice_get_past}
@@ -161,6 +163,39 @@ pub list_longer : (patterns : List (List ℕ)) (word : List ℕ) (symbol : ℕ)
     → filter (λ i. goes_on (pattern_at patterns i) (length word) symbol) (list_for patterns word)
     ≡ list_for patterns (word ++ symbol ∷ [])
 list_longer patterns word symbol = grind (arith, filter_filter, starts_longer)
+
+-- what an element of a part of a list is mapped to
+pub mapped_at : (tells : ℕ → ℕ) (xs : List ℕ) (start end place x : ℕ) → start ≤ place → place < end → end ≤ length xs
+    → x ≡ get_or xs place x → get_or (map tells (slice_range xs start end)) (place - start) 0 ≡ tells x
+mapped_at tells xs start end place x after before inside is =
+    let long : place - start < length (slice_range xs start end) = grind (arith, common_steps) in
+    get_or-map tells (slice_range xs start end) (place - start) x 0 long
+    ∙ ap tells (grind (arith, common_steps))
+
+-- a text goes on with a symbol if that comes next
+pub goes_on_after : (text : List ℕ) (at symbol : ℕ) → symbol < 256
+    → goes_on text at symbol ≡ eqb (get_or text at 256) symbol
+goes_on_after text at symbol small = grind (arith, common_steps)
+
+-- a list of which none passes, by what each element tells
+none_passes : (goes : ℕ → Bool) (tells : ℕ → ℕ) (symbol : ℕ) → ((x : ℕ) → goes x ≡ eqb (tells x) symbol)
+    → (xs : List ℕ) → ((k : ℕ) → k < length (map tells xs) → get_or (map tells xs) k 0 ≡ symbol → ⊥)
+    → filter goes xs ≡ []
+none_passes goes tells symbol is [] none = refl
+none_passes goes tells symbol is (x ∷ xs) none =
+    let more = none_passes goes tells symbol is xs (λ k inside at. none (suc k) (omega arith) at) in
+    let here : goes x ≡ false = is x ∙ ne_eqb _ _ (none 0 (omega arith)) in
+    cond-false _ _ _ here ∙ more
+
+-- where a symbol comes next in no pattern that begins with a word, no pattern begins with both
+pub none_listed : (patterns : List (List ℕ)) (word : List ℕ) (symbol : ℕ) → symbol < 256
+    → ((k : ℕ) → k < length (symbols_after patterns word) → get_or (symbols_after patterns word) k 0 ≡ symbol → ⊥)
+    → list_for patterns (word ++ symbol ∷ []) ≡ []
+none_listed patterns word symbol small none =
+    sym (list_longer patterns word symbol)
+    ∙ none_passes (λ i. goes_on (pattern_at patterns i) (length word) symbol)
+    (λ i. get_or (pattern_at patterns i) (length word) 256) symbol
+    (λ i. goes_on_after (pattern_at patterns i) (length word) symbol small) (list_for patterns word) none
 
 module _ (patterns : List (List ℕ)) (word : List ℕ) where
   numbers : List ℕ

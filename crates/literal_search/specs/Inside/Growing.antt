@@ -1,10 +1,10 @@
 -- The fields of `Growing`.
 use Rattle.std.specs.Prelude.{◌≡◌, ℕ, ◌*◌, ◌-◌, ◌<◌, ◌≤◌, ◌^◌, List, [], ◌∷◌, ◌++◌, length, map}
-use Rattle.std.specs.Prelude.{slice_index_or, slice_range, take}
+use Rattle.std.specs.Prelude.{slice_index, slice_index_or, slice_range, take}
 use Rattle.std.specs.Option.{unwrap_or}
 use Rattle.literal_base.specs.Occurs.{pattern_at}
 use Rattle.literal_search.specs.Table.{LeadsTo, nothing, stride_of}
-use Rattle.literal_search.specs.Words.{ending, word_of}
+use Rattle.literal_search.specs.Words.{ending, live_suffix, word_of}
 use Rattle.literal_search.specs.Inside.Classes.{AreClasses, symbols_in}
 use Rattle.literal_search.specs.Inside.Grown.{AreRows, AreWords, failure_of, list_for}
 use Rattle.literal_search.specs.declared.grow.Growing.{Growing}
@@ -84,6 +84,16 @@ abbrev pub IsNextState : Growing → State → Type 0
 IsNextState g s =
     IsStateAt (texts_of g.texts) (words_of g) g.texts.width g.lists.items (length g.states.items) s
 
--- the words are those of different states, made as far as the rows are filled
-abbrev pub AreWordsIn : Growing → Type 0
-AreWordsIn g = AreWords (texts_of g.texts) (words_of g) g.texts.width (length g.rows.items)
+-- the words are those of different states, made as far as a place in the rows
+abbrev pub AreWordsTo : Growing → ℕ → Type 0
+AreWordsTo g place = AreWords (texts_of g.texts) (words_of g) g.texts.width place
+
+-- in a row of its own, the numbers for the symbols below one lead on from a state
+abbrev pub LeadOn : Growing → ℕ → ℕ → List ℕ → Type 0
+LeadOn g state below row = (symbol : ℕ) → symbol < below → symbol < g.texts.width
+    → LeadsIn g (slice_index row symbol) (live_suffix (texts_of g.texts) (word_behind g state symbol))
+
+-- and those for the symbols from one on are the failure links of the state's word with one symbol more
+abbrev pub LeadBack : Growing → ℕ → ℕ → List ℕ → Type 0
+LeadBack g state from row = (symbol : ℕ) → from ≤ symbol → symbol < g.texts.width
+    → LeadsIn g (slice_index row symbol) (failure_of (texts_of g.texts) (word_behind g state symbol))

@@ -1,6 +1,6 @@
 -- States that stand for words, while they are made.
 use Rattle.std.specs.Prelude.{◌≡◌, ◌≢◌, ◌⊎◌, ℕ, ◌+◌, ◌*◌, ◌<◌, ◌≤◌, ◌==◌, ◌&&◌, Bool, true, List, [], ◌∷◌, ◌++◌}
-use Rattle.std.specs.Prelude.{length, nat_eq, nat_lt, slice_index}
+use Rattle.std.specs.Prelude.{length, map, nat_eq, nat_lt, slice_index, slice_index_or}
 use Rattle.std.specs.List.{filter, range_with_len, starts_with}
 use Rattle.std.specs.Option.{unwrap_or}
 use Rattle.literal_base.specs.Occurs.{pattern_at}
@@ -15,6 +15,11 @@ goes_on text at symbol = nat_lt at (length text) && slice_index text at == symbo
 abbrev pub list_for : List (List ℕ) → List ℕ → List ℕ
 list_for patterns word =
     filter (λ i. starts_with nat_eq (pattern_at patterns i) word) (range_with_len 0 (length patterns))
+
+-- the symbols with which the patterns that begin with a word go on behind it, and 256 where one ends
+abbrev pub symbols_after : List (List ℕ) → List ℕ → List ℕ
+symbols_after patterns word =
+    map (λ i. slice_index_or (pattern_at patterns i) (length word) 256) (list_for patterns word)
 
 -- the word to which the failure link of a text's state leads: the live suffix of what is behind its first symbol
 abbrev pub failure_of : List (List ℕ) → List ℕ → List ℕ

@@ -1,10 +1,11 @@
 -- The fields of `Recognised` and `Lists`.
 use Rattle.std.specs.Prelude.{◌≡◌, ℕ, ◌+◌, ◌-◌, ◌<◌, ◌≤◌, ◌^◌, List, Some, length, map, slice_index}
+use Rattle.std.specs.Option.{unwrap_or}
 use Rattle.literal_base.specs.Occurs.{NoneIsEmpty, pattern_at}
 use Rattle.literal_search.specs.Inside.Classes.{AreClasses, symbols_in}
 use Rattle.literal_search.specs.Inside.Suffixes.{AreSuffixes, IsOutputLink, IsNextEqual}
 use Rattle.literal_search.specs.Inside.Walk.{IsAt, IsRow}
-use Rattle.literal_search.specs.Table.{Recognises}
+use Rattle.literal_search.specs.Table.{Recognises, nothing}
 use Rattle.literal_search.specs.Words.{ending}
 use Rattle.literal_search.specs.declared.suffixes.Recognised.{Recognised}
 
@@ -18,6 +19,12 @@ pub record Recognise (r : Recognised) : Type 0 where
   pub recognises : Recognises (symbols_of r) r.width r.rows.now
   pub some : NoneIsEmpty (symbols_of r)
   pub few : length r.patterns.now ≤ 2 ^ 31 - 1
+
+-- each pattern up to one has the longest that is a suffix of it, of equals the first
+pub record AreLongest (patterns : List (List ℕ)) (longest : List ℕ) (count : ℕ) : Type 0 where
+  pub long : length longest ≡ count
+  pub each : (i : ℕ) → i < count
+      → slice_index longest i ≡ unwrap_or (ending patterns (pattern_at patterns i)) nothing
 
 -- from one pattern on each has its link
 pub record AreOutputLinks (patterns : List (List ℕ)) (links : List ℕ) (from : ℕ) : Type 0 where

@@ -37,7 +37,7 @@ returns-clause-states c =
       length (words_of g),
       record {
         texts = words_of g;
-        are_states = states_made (texts_of t) (words_of g) t.width (length g.rows.items) said.words;
+        are_states = states_made (texts_of t) (words_of g) t.width _ said.words;
         count_is = refl;
         most = few_states (texts_of t) t.width
             (symbols_below t.classes.now t.width said.grows.texts.classes t.patterns.now) g.rows.items are;

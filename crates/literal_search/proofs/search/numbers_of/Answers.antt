@@ -1,12 +1,10 @@
-use Rattle.std.proofs.Common.{◌∙◌, ℕ, List, [], ap, arith, map, refl, subst, sym}
+use Rattle.std.proofs.Common.{◌∙◌, ℕ, List, [], arith, map, refl, subst, sym}
 use Rattle.std.proofs.lemmas.Bool.{eqb-true}
 use Rattle.std.proofs.lemmas.List.{nil_from_length}
 use Rattle.std.specs.Global.{Vec}
-use Rattle.literal_search.specs.Inside.Prepared.{numbers_for}
 use Rattle.literal_search.specs.Inside.Search.{AreKept}
 use Rattle.literal_search.specs.Prepared.{AreBackTables, BackTables}
 use Rattle.literal_search.specs.SearchValue.{NeedFewReversed, NeedTooManyReversed, longest_of, search_by}
-use Rattle.literal_search.specs.declared.prepared.TheConstants.{PREPARED_VERSION}
 use Rattle.literal_search.proofs.lemmas.BackTables.{kept_all, short_by}
 use Rattle.literal_search.proofs.lemmas.Built.{holds_in, passed_on}
 use Rattle.literal_search.proofs.lemmas.NoPattern.{none_are_kept, none_need_few_states}
@@ -33,8 +31,8 @@ pub returns-in_err-rows-clause-too_many : goal.returns-in_err-rows-clause-too_ma
 unfolding NeedTooManyReversed
 returns-in_err-rows-clause-too_many c = grind (arith, holds_in, passed_on)
 
-pub written-requires-clause-short : goal.written-requires-clause-short
-written-requires-clause-short c =
+pub assembled-requires-clause-short : goal.assembled-requires-clause-short
+assembled-requires-clause-short c =
     let classes = c.classes_for-classes.result in
     short_by classes.table classes.width (bytes_of c.args.patterns.now) c.in_ok-rows.ensures.few
 
@@ -58,10 +56,8 @@ returns-clause-kept c =
       kept = c.requires;
     } in
     let prints = c.prints_for-prints.result in
-    let is = c.in_ok-numbers.ensures
-    ∙ ap (λ r. numbers_for PREPARED_VERSION classes.table classes.width patterns r [] prints) c.deref.ensures.value in
-    subst (AreKept t.search) (sym is) (kept_all t are prints (omega arith) c.prints_for-prints.ensures
-    c.classes_for-classes.ensures.width c.in_ok-rows.ensures.rows.states)
+    subst (AreKept t.search) (sym c.in_ok-numbers.ensures) (kept_all t are prints (omega arith)
+    c.prints_for-prints.ensures c.classes_for-classes.ensures.width c.in_ok-rows.ensures.rows.states)
 
 pub returns-clause-few : goal.returns-clause-few
 returns-clause-few c = grind (arith, holds_in)

@@ -1,7 +1,7 @@
-use Rattle.std.proofs.Common.{◌≡◌, ◌+◌, ◌*◌, ◌<◌, ◌∙◌, ◌++◌, ◌∷◌, [], arith, length, List, ℕ, sym, subst, true}
+use Rattle.std.proofs.Common.{◌≡◌, ◌+◌, ◌*◌, ◌<◌, ◌∙◌, ◌++◌, ◌∷◌, [], arith, length, List, ℕ, refl, sym, subst, true}
 use Rattle.std.proofs.lemmas.List.{length-append, nil_from_length}
 use Rattle.literal_search.specs.Inside.Grown.{AreWords, list_for}
-use Rattle.literal_search.specs.Inside.Growing.{AreWordsIn, IsGrowing, texts_of, word_behind, word_in, words_of}
+use Rattle.literal_search.specs.Inside.Growing.{AreWordsTo, IsGrowing, texts_of, word_behind, word_in, words_of}
 use Rattle.literal_search.specs.States.{AreStates}
 use Rattle.literal_search.specs.Table.{LeadsTo, stride_of}
 use Rattle.literal_search.specs.Words.{begins_one}
@@ -21,15 +21,15 @@ begun_by : (g : Growing) (text longer : List ℕ) (len start : ℕ)
 begun_by g text longer len start lists now was isnt = grind (arith, length-append, begun_by_length)
 
 -- the state of a place makes a word
-made : (g : Growing) (state class : ℕ) → IsGrowing g.texts g.states.items g.lists.items g.rows.items → AreWordsIn g
+made : (g : Growing) (state class : ℕ) → IsGrowing g.texts g.states.items g.lists.items g.rows.items
+    → AreWordsTo g (state * stride_of g.texts.width + class)
     → state < length g.states.items → class < g.texts.width
-    → length g.rows.items ≡ state * stride_of g.texts.width + class
     → begins_one (texts_of g.texts) (word_behind g state class) ≡ true
     → AreWords (texts_of g.texts) (words_of g ++ word_behind g state class ∷ []) g.texts.width
-    (length g.rows.items + 1)
-made g state class grows words is_state is_class filled begun =
-    made_next (texts_of g.texts) (words_of g) g.texts.width (length g.rows.items) words state class
-    (omega (arith, is_state, words_length g.texts g.states.items)) is_class filled begun
+    (state * stride_of g.texts.width + class + 1)
+made g state class grows words is_state is_class begun =
+    made_next (texts_of g.texts) (words_of g) g.texts.width (state * stride_of g.texts.width + class) words state class
+    (omega (arith, is_state, words_length g.texts g.states.items)) is_class refl begun
 
 -- the words with one more are the same, of texts and states that stay the same
 words_with : (g g' : Growing) (next : State) (state class : ℕ) → g'.texts ≡ g.texts → g'.states ≡ g.states
@@ -53,9 +53,9 @@ add_state-requires-clause-different c =
     states_same g.texts g'.texts (words_of g ++ text ∷ []) _ said.same.0
     (words_with g g' c.state_behind-next.result c.args.state c.args.class said.same.0 said.same.1
     c.state_behind-next.ensures.word)
-    (states_made (texts_of g.texts) (words_of g ++ text ∷ []) g.texts.width (length g.rows.items + 1)
-    (made g c.args.state c.args.class c.requires.grows c.requires.words c.requires.is_state c.requires.is_class
-    c.requires.filled begun))
+    (states_made (texts_of g.texts) (words_of g ++ text ∷ []) g.texts.width
+    (c.args.state * stride_of g.texts.width + c.args.class + 1)
+    (made g c.args.state c.args.class c.requires.grows c.requires.words c.requires.is_state c.requires.is_class begun))
 
 pub returns-clause-words : goal.returns-clause-words
 returns-clause-words c =
@@ -64,29 +64,20 @@ returns-clause-words c =
     let said = c.in_ok-whole.ensures in
     let begun = begun_by g (word_behind g c.args.state c.args.class) g'.lists.items c.len.result c.len-start.result
     said.lists (c.len.ensures ∙ g'.lists.ok.0) (c.len-start.ensures ∙ g.lists.ok.0) c.if-len-start.false in
-    subst (λ words. AreWords (texts_of g.texts) words g.texts.width (length g.rows.items + 1))
+    subst (λ words. AreWords (texts_of g.texts) words g.texts.width
+    (c.args.state * stride_of g.texts.width + c.args.class + 1))
     (sym (c.in_ok-code.ensures.words ∙ words_with g g' c.state_behind-next.result c.args.state c.args.class
     said.same.0 said.same.1 c.state_behind-next.ensures.word))
-    (made g c.args.state c.args.class c.requires.grows c.requires.words c.requires.is_state c.requires.is_class
-    c.requires.filled begun)
-
-pub returns-then-not-is_marked-clause-words : goal.returns-then-not-is_marked-clause-words
-returns-then-not-is_marked-clause-words c =
-    let g = c.args.self.now in
-    made_more (texts_of g.texts) (words_of g) g.texts.width (length g.rows.items) c.requires.words
-    (length g.rows.items + 1) (omega arith)
+    (made g c.args.state c.args.class c.requires.grows c.requires.words c.requires.is_state c.requires.is_class begun)
 
 pub returns-then-len-start-clause-words : goal.returns-then-len-start-clause-words
 returns-then-len-start-clause-words c =
     let g = c.args.self.now in
     let said = c.in_ok-whole.ensures in
-    subst (λ words. AreWords (texts_of g.texts) words g.texts.width (length g.rows.items + 1))
+    subst (λ words. AreWords (texts_of g.texts) words g.texts.width
+    (c.args.state * stride_of g.texts.width + c.args.class + 1))
     (sym (words_same g c.push_list.new.self said.same.0 said.same.1))
-    (made_more (texts_of g.texts) (words_of g) g.texts.width (length g.rows.items) c.requires.words
-    (length g.rows.items + 1) (omega arith))
-
-pub returns-then-not-is_marked-clause-leads : goal.returns-then-not-is_marked-clause-leads
-returns-then-not-is_marked-clause-leads c = grind (arith, unbegun_by_list, live_unbegun)
+    (made_more (texts_of g.texts) (words_of g) g.texts.width _ c.requires.words _ (omega arith))
 
 pub returns-then-len-start-clause-leads : goal.returns-then-len-start-clause-leads
 returns-then-len-start-clause-leads c =

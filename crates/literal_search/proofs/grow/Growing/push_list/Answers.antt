@@ -3,8 +3,14 @@ use Rattle.std.specs.List.{All}
 use Rattle.literal_search.specs.Inside.Growing.{IsGrowing, list_in, texts_of}
 use Rattle.literal_search.specs.declared.grow.State.{State}
 use Rattle.literal_search.proofs.lemmas.Grown.{list_by_list, whole_by_list}
-use Rattle.literal_search.proofs.lemmas.Growing.{grown_lists, list_at, long_word}
+use Rattle.literal_search.proofs.lemmas.Growing.{after_is, grown_lists, list_at, long_word}
 use Rattle.literal_search.proofs.grow.Growing.push_list.Goals as goal
+
+pub push_longer-requires-clause-after : goal.push_longer-requires-clause-after
+push_longer-requires-clause-after c =
+    let g = c.args.self.now in
+    c.requires.after ∙ sym (after_is g.texts g.states.items g.lists.items g.rows.items c.requires.grows c.args.state
+    c.index-here.result.now c.requires.is_state c.index-here.ensures)
 
 pub returns-clause-grows : goal.returns-clause-grows
 returns-clause-grows c =

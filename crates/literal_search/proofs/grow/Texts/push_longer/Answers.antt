@@ -1,8 +1,19 @@
-use Rattle.std.proofs.Common.{◌<◌, ◌≤◌, ◌∙◌, arith, length, ℕ, sym, subst}
-use Rattle.literal_search.proofs.lemmas.Grown.{added_more, found_none, found_yet}
+use Rattle.std.proofs.Common.{◌-◌, List, ap, get_or, ◌<◌, ◌≤◌, ◌∙◌, arith, length, ℕ, sym, subst}
+use Rattle.literal_search.proofs.lemmas.Grown.{added_more, found_none, found_yet, mapped_at}
 use Rattle.literal_search.proofs.lemmas.Grown.{longer_kept, longer_long, numbers_more}
 use Rattle.literal_search.proofs.grow.Texts.push_longer.Goals.{else-branch, then-branch}
 use Rattle.literal_search.proofs.grow.Texts.push_longer.Goals as goal
+
+pub push_if_longer-requires-clause-after : goal.push_if_longer-requires-clause-after
+push_if_longer-requires-clause-after c =
+    let here = c.args.here in
+    let before = c.loop-place-test.true in
+    let after = c.loop-place.auto.place in
+    let read = c.index-pattern.ensures
+    ∙ c.loop-place.invariant.kept c.loop-place.place _ (omega (arith, before, c.requires.inside)) in
+    ap (λ (l : List ℕ). get_or l (c.loop-place.place - here.start) 0) c.requires.after
+    ∙ mapped_at _ c.args.lists.now.items here.start here.end c.loop-place.place c.index-pattern.result.now after before
+    c.requires.inside read
 
 pub loop-place-preserved : goal.loop-place-preserved
 loop-place-preserved c =

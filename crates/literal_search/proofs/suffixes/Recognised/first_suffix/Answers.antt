@@ -1,4 +1,4 @@
-use Rattle.std.proofs.Common.{ℕ, List, arith, subst}
+use Rattle.std.proofs.Common.{ℕ, List, arith, get_or, subst}
 use Rattle.literal_search.specs.Inside.Lists.{symbols_of}
 use Rattle.literal_search.proofs.lemmas.Shadowed.{IsSmallestUpTo, smallest_first, smallest_is_first, smallest_on}
 use Rattle.literal_search.proofs.lemmas.Chains.{first_equal_of, left_falls}
@@ -10,10 +10,12 @@ loop-next-init c =
     let r = c.args.self.now in
     let texts = symbols_of r in
     let few = symbols_few r c.requires.recognise in
-    let one = first_equal_of texts c.requires.recognise.some few c.args.pattern c.longest_suffix-next.result
-    (omega (arith, symbols_count r, c.requires.is_pattern)) c.longest_suffix-next.ensures in
-    subst (λ (text : List ℕ). IsSmallestUpTo texts text c.longest_suffix-next.result c.longest_suffix-next.result)
-    one.same (smallest_first texts c.requires.recognise.some few c.longest_suffix-next.result one.first_is)
+    let first = get_or c.args.longest.now c.args.pattern 0 in
+    let one = first_equal_of texts c.requires.recognise.some few c.args.pattern first
+    (omega (arith, symbols_count r, c.requires.is_pattern))
+    (c.requires.longest.each c.args.pattern c.requires.is_pattern) in
+    subst (λ (text : List ℕ). IsSmallestUpTo texts text first first)
+    one.same (smallest_first texts c.requires.recognise.some few first one.first_is)
 
 pub loop-next-preserved : goal.loop-next-preserved
 loop-next-preserved c = grind (arith, IsSmallestUpTo, smallest_on, symbols_few)
