@@ -3,7 +3,6 @@
 ghost use Rattle.std.specs.Prelude.{◌≡◌, ◌⊎◌, ◌+◌, ◌-◌, ◌*◌, ◌/◌, ◌<◌, ◌≤◌, ◌^◌, ◌%◌, ℕ, length, max, min};
 ghost use Rattle.std.specs.Prelude.{IfOk, IfSome, IsNone, IsTrue, List, MatchOption, Some, ◌↔◌};
 ghost use Rattle.std.specs.Result.{IsOkAnd};
-ghost use Rattle.literal_base.specs.Leftmost.{IsLeftmost};
 ghost use Rattle.literal_base.specs.Occurs.{IsValidSpan, between};
 ghost use Rattle.literal_base.specs.declared.search.Span.{Span};
 ghost use Rattle.literal_search.specs.At.{IsMatchIn};
@@ -14,7 +13,6 @@ ghost use Rattle.literal_search.specs.Inside.Leftmost.{IsFirstBegun, IsFourParts
 ghost use Rattle.literal_search.specs.Inside.Leftmost.{IsLane, IsLed};
 ghost use Rattle.literal_search.specs.Inside.Leftmost.{IsFront, IsLimit, IsPaid, IsPart, IsStep, LiesInPart, ReadsFor};
 ghost use Rattle.literal_search.specs.Inside.Leftmost.{AreFor, ahead_by, owed_by};
-ghost use Rattle.literal_search.specs.SearchValue.{LooksFor};
 
 use crate::backward::{Backward, Begun};
 use crate::prepared::{Damaged, scan_in};
@@ -25,7 +23,7 @@ use literal_base::{Match, Span};
 use literal_fingerprints::CandidateScan;
 
 /// The least length of the parts of the first block through which four walks go at once.
-const FIRST: usize = 16;
+pub(crate) const FIRST: usize = 16;
 
 /// Parts double from block to block until they have at least this length.
 const LAST: usize = 1024;
@@ -242,7 +240,7 @@ impl<'t> Backward<'t> {
     /// The first place of a part of a span at which a pattern begins, or else the one that is known behind it, by a
     /// walk that stands at the part's end.
     #[inline(always)]
-    fn first_in(
+    pub(crate) fn first_in(
         &self,
         classes: &[u8; 256],
         haystack: &[u8],
@@ -364,14 +362,17 @@ impl<'t> Backward<'t> {
     {
         let part = block.part;
         let (mut first, mut second, mut third, mut fourth) = (0, 0, 0, 0);
-        let (mut passed, mut behind) = (None, None); // (what begins in the next part, its own walk tells)
+        let mut behind = None; // (what begins in the next part, its own walk tells)
         for step in (0..block.lead).rev() {
             let here = at + part + step;
-            first = self.follow(classes, first, haystack, here, limit, &mut passed, tally)?;
+            let one = self.step(classes, first, haystack, here, limit, tally)?;
+            first = (one % ENDS) as usize;
             let here = here + part;
-            second = self.follow(classes, second, haystack, here, limit, &mut passed, tally)?;
+            let two = self.step(classes, second, haystack, here, limit, tally)?;
+            second = (two % ENDS) as usize;
             let here = here + part;
-            third = self.follow(classes, third, haystack, here, limit, &mut passed, tally)?;
+            let three = self.step(classes, third, haystack, here, limit, tally)?;
+            third = (three % ENDS) as usize;
             let here = here + part;
             fourth = self.follow(classes, fourth, haystack, here, limit, &mut behind, tally)?;
         }
@@ -699,7 +700,7 @@ impl<'t> Backward<'t> {
     /// The first place of a span at which a pattern begins. A scan for candidates passes over bytes. Where it stops,
     /// one walk looks at the place, if it passed over enough; else four walks go through a block, from its end. Each
     /// block is twice as long as the one before it, up to a limit.
-    fn first_begun(
+    pub(crate) fn first_begun(
         &self,
         haystack: &[u8],
         span: Span,
@@ -740,30 +741,6 @@ impl<'t> Backward<'t> {
             end: span.end,
         };
         self.first_in(classes, haystack, span, rest, 0, None, limit, tally)
-    }
-
-    /// The leftmost match of a span.
-    pub fn find_in(
-        &self,
-        haystack: &[u8],
-        span: Span,
-        tally: &mut Tally,
-    ) -> Result<Option<Match>, Damaged>
-        requires safe { IsSafe self.now }
-        requires valid { IsValidSpan haystack.now span }
-        ensures leftmost { ForBackward self.now (λ tables. IsOkAnd result
-            (IsLeftmost tables.search.query tables.search.ignore_case haystack.now span)) }
-        ensures lies { IfOk result (λ answer. IfSome answer (IsMatchBy self.now span span.start)) }
-        ensures others { tally.new ≡ record tally.old { scanned = tally.new.scanned } }
-        ensures most { tally.new.scanned ≤ tally.old.scanned + 3 * (span.end - span.start) }
-        ensures counted { IfOk result (λ answer.
-            LooksFor self.now.table.longest span answer tally.old.scanned tally.new.scanned) }
-    {
-        let Some(begun) = self.first_begun(haystack, span, tally)? else {
-            return Ok(None);
-        };
-        let found = self.match_at(haystack, span, begun.at, begun.code)?;
-        Ok(Some(found))
     }
 
     /// The match that begins where a span does, by one walk from so far behind it that all that begins there is read.

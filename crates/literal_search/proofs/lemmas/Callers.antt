@@ -27,7 +27,7 @@ use Rattle.literal_base.proofs.lemmas.Callers.{GivesList}
 use Rattle.literal_search.specs.SearchValue.{BuildsSearch, SearchValue, GivesAll, GivesNext, NeedTooManyStates}
 use Rattle.literal_search.specs.SearchValue.{search_by}
 use Rattle.literal_search.specs.SearchValue.{NeedTooManyReversed}
-use Rattle.literal_search.specs.Automaton.{AreAtEnd, EndsText, IsStateAfter, OccursAtEnd}
+use Rattle.literal_search.specs.Automaton.{AreAtEnd, EndsText, IsStateAfter}
 use Rattle.literal_search.specs.MatchesValue.{GivesMatch, MatchesValue}
 use Rattle.literal_search.specs.Overlapping.{BuildsOverlapping, OverlappingValue}
 use Rattle.literal_search.specs.PreparedOverlapping.{Tables, overlapping_value}
