@@ -34,7 +34,7 @@ const LEAST_PART: usize = 11;
 
 /// Before one walk looks at a candidate, a scan passed over this many bytes, or as many as the longest pattern has,
 /// whichever is more.
-const PRICE: usize = 48;
+pub(crate) const PRICE: usize = 48;
 
 /// The largest number of bytes that count as passed over.
 const MOST_CREDIT: usize = 2048;
@@ -240,7 +240,7 @@ impl<'t> Backward<'t> {
     /// The first place of a part of a span at which a pattern begins, or else the one that is known behind it, by a
     /// walk that stands at the part's end.
     #[inline(always)]
-    pub(crate) fn first_in(
+    fn first_in(
         &self,
         classes: &[u8; 256],
         haystack: &[u8],
@@ -275,7 +275,37 @@ impl<'t> Backward<'t> {
         Ok(first)
     }
 
-    /// What begins at a place of a span, by one walk from so far behind it that all that begins there lies before.
+    /// The first place of a part of a span at which a pattern begins, by one walk from so far behind it that all that
+    /// begins there lies before.
+    #[inline(always)]
+    pub(crate) fn begun_in(
+        &self,
+        classes: &[u8; 256],
+        haystack: &[u8],
+        span: Span,
+        part: Span,
+        limit: usize,
+        tally: &mut Tally,
+    ) -> Result<Option<Begun>, Damaged>
+        requires safe { IsSafe self.now }
+        requires same { HasBytes self.now classes.now }
+        requires limit { IsLimit self.now limit }
+        requires valid { IsValidSpan haystack.now span }
+        requires part { IsPart span part }
+        ensures first { ForBackward self.now (λ tables. IsOkAnd result
+            (IsFirstBegun tables haystack.now span.end part)) }
+        ensures inside { IfOk result (LiesInPart part.start part.end) }
+        ensures others { tally.new ≡ record tally.old { scanned = tally.new.scanned } }
+        ensures most { tally.new.scanned + part.start
+            ≤ tally.old.scanned + min (part.end + (self.now.table.longest - 1)) span.end }
+        ensures all { IfOk result (λ _. tally.new.scanned + part.start
+            ≡ tally.old.scanned + min (part.end + (self.now.table.longest - 1)) span.end) }
+    {
+        let place = self.walk_back(classes, haystack, span, part.end, limit, tally)?;
+        self.first_in(classes, haystack, span, part, place, None, limit, tally)
+    }
+
+    /// What begins at a place of a span, by one walk.
     pub(crate) fn begun_at(
         &self,
         classes: &[u8; 256],
@@ -303,8 +333,7 @@ impl<'t> Backward<'t> {
             start: at,
             end: at + 1,
         };
-        let place = self.walk_back(classes, haystack, span, part.end, limit, tally)?;
-        self.first_in(classes, haystack, span, part, place, None, limit, tally)
+        self.begun_in(classes, haystack, span, part, limit, tally)
     }
 
     /// A place of a span, or its end, before which no pattern begins, by the scan for candidates, if there is one.
@@ -603,7 +632,7 @@ impl<'t> Backward<'t> {
 
     /// How far a search is that passes on by a scan for candidates.
     #[inline(always)]
-    fn pass_on(
+    pub(crate) fn pass_on(
         &self,
         scan: &Option<CandidateScan>,
         haystack: &[u8],
@@ -723,12 +752,17 @@ impl<'t> Backward<'t> {
             credit: 0,
             part: FIRST.max(self.table.longest / 2 + 3),
         };
-        let mut front = self.pass_on(scan, haystack, span, begin, tally);
+        let front = self.pass_on(scan, haystack, span, begin, tally);
         if front.at == span.end {
             return Ok(None);
         }
         let (limit, bytes) = (self.table.limit()?, self.table.class_bytes());
         let classes = &bytes;
+        let near = self.look_first(scan, classes, haystack, span, front, limit, tally)?;
+        if let Some(begun) = near.first {
+            return Ok(Some(begun));
+        }
+        let mut front = near.front;
         while let Some(block) = self.four_parts_at(span, front.at, front.part, owed) {
             let looked = self.look_on(classes, haystack, span, front, block, owed, limit, tally)?;
             if looked.first.is_some() {
@@ -741,35 +775,5 @@ impl<'t> Backward<'t> {
             end: span.end,
         };
         self.first_in(classes, haystack, span, rest, 0, None, limit, tally)
-    }
-
-    /// The match that begins where a span does, by one walk from so far behind it that all that begins there is read.
-    pub fn find_at(
-        &self,
-        haystack: &[u8],
-        span: Span,
-        tally: &mut Tally,
-    ) -> Result<Option<Match>, Damaged>
-        requires safe { IsSafe self.now }
-        requires valid { IsValidSpan haystack.now span }
-        ensures at { ForBackward self.now (λ tables. IsOkAnd result
-            (IsMatchIn tables.search.query tables.search.ignore_case haystack.now span)) }
-        ensures lies { IfOk result (λ answer. IfSome answer (IsMatchBy self.now span span.start)) }
-        ensures others { tally.new ≡ record tally.old { scanned = tally.new.scanned } }
-        ensures most { tally.new.scanned ≤ tally.old.scanned + self.now.table.longest }
-        ensures within { IfOk result (λ _. tally.new.scanned ≤ tally.old.scanned + (span.end - span.start)) }
-        ensures least { IfOk result (λ answer. MatchOption answer (tally.old.scanned ≤ tally.new.scanned)
-            (λ found. tally.old.scanned + found.end ≤ tally.new.scanned + span.start)) }
-    {
-        let (limit, bytes) = (self.table.limit()?, self.table.class_bytes());
-        let classes = &bytes;
-        if span.start == span.end || self.table.longest == 0 {
-            return Ok(None);
-        }
-        if let Some(begun) = self.begun_at(classes, haystack, span, span.start, limit, tally)? {
-            let found = self.match_at(haystack, span, begun.at, begun.code)?;
-            return Ok(Some(found));
-        }
-        Ok(None)
     }
 }

@@ -1,20 +1,24 @@
 //! The leftmost match of a span. Where patterns are likely to begin at many places, one walk after another goes through
 //! short pieces at its start, which end, where that can be, before a byte that no pattern has.
-ghost use Rattle.std.specs.Prelude.{◌≡◌, ◌+◌, ◌-◌, ◌*◌, ◌<◌, ◌≤◌, IfOk, IfSome, MatchOption, min, true};
+ghost use Rattle.std.specs.Prelude.{ℕ, IsNone, Some, ◌≡◌, ◌+◌, ◌-◌, ◌*◌, ◌<◌, ◌≤◌, IfOk, IfSome, MatchOption, min, true};
 ghost use Rattle.std.specs.Result.{IsOkAnd};
 ghost use Rattle.literal_base.specs.Leftmost.{IsLeftmost};
 ghost use Rattle.literal_base.specs.Occurs.{IsValidSpan, between};
+ghost use Rattle.literal_search.specs.At.{IsMatchIn};
 ghost use Rattle.literal_search.specs.Inside.Backward.{ForBackward, IsMatchBy, IsSafe};
-ghost use Rattle.literal_search.specs.Inside.Leftmost.{HasBytes, IsLimit};
+ghost use Rattle.literal_search.specs.Inside.Leftmost.{AreFor, HasBytes, IsFirstBegun, IsFront, IsLimit, LiesInPart};
+ghost use Rattle.literal_search.specs.Inside.Leftmost.{ReadsFor, owed_by};
 ghost use Rattle.literal_search.specs.Inside.Near.{IsGap, IsNear, IsPiece, ReadsNear};
 ghost use Rattle.literal_search.specs.SearchValue.{LooksFor};
 
 use crate::backward::Backward;
-use crate::leftmost::FIRST;
+use crate::classes::CLASSES_LEN;
+use crate::leftmost::{FIRST, Front, Looked, PRICE};
 use crate::prepared::Damaged;
 use crate::walk::class_by;
 use literal_base::count::Tally;
 use literal_base::{Match, Span};
+use literal_fingerprints::CandidateScan;
 
 /// How many bytes a piece has at least, if the span has as many.
 const PIECE: usize = 10;
@@ -25,8 +29,11 @@ const MORE: usize = 8;
 /// Pieces begin before this offset in the span.
 const NEAR: usize = 64;
 
-/// At most so many states for each two patterns has an automaton of patterns that are likely to be frequent.
+/// A search without a scan begins by pieces, if it has at most so many states for each two patterns.
 const FEW_STATES: usize = 9;
+
+/// The same of a search with a scan, which looks at a piece at its first candidate.
+const FEW_STATES_TO_SCAN: usize = 15;
 
 /// A piece of a span.
 #[derive(Clone, Copy)]
@@ -46,17 +53,17 @@ pub struct Near {
 }
 
 impl<'t> Backward<'t> {
-    /// Whether patterns are likely to begin at many places: there is no scan, and the automaton has few states for a
-    /// pattern, as that of frequent words has, which are short and alike. It only makes a search faster or slower.
+    /// Whether the automaton has at most so many states for each two patterns: few if these are short and alike, as
+    /// frequent words are. What follows from it only makes a search faster or slower.
     #[inline(always)]
-    fn is_dense(&self) -> bool
+    fn has_few_states(&self, most: usize) -> bool
         requires safe { IsSafe self.now }
+        requires bounded { most ≤ 256 }
         ensures { result ≡ true → self.now.table.width < 256 }
     {
         let width = self.table.width;
-        self.prints[0] == 0
-            && width < 256
-            && self.table.rows.len() <= self.lens.len() * (width + 1) * FEW_STATES / 2
+        width < 256
+            && self.table.rows.len() - CLASSES_LEN <= self.lens.len() * (width + 1) * most / 2
     }
 
     /// The first offset of a span at which a byte stands that no pattern has.
@@ -151,9 +158,7 @@ impl<'t> Backward<'t> {
             end: reach,
         };
         let part = Span { start: at, end };
-        let place = self.walk_back(classes, haystack, span, end, limit, tally)?;
-        let first = self.first_in(classes, haystack, span, part, place, None, limit, tally)?;
-        let Some(begun) = first else {
+        let Some(begun) = self.begun_in(classes, haystack, span, part, limit, tally)? else {
             return Ok(Near {
                 found: None,
                 at: end,
@@ -213,13 +218,63 @@ impl<'t> Backward<'t> {
         ensures counted { IfOk result
             (ReadsNear self.now.table.longest span tally.old.scanned tally.new.scanned) }
     {
-        if self.is_dense() {
+        if self.prints[0] == 0 && self.has_few_states(FEW_STATES) {
             return self.find_by_pieces(haystack, span, tally);
         }
         Ok(Near {
             found: None,
             at: span.start,
         })
+    }
+
+    /// What begins in a short piece from the first candidate on, by one walk, if no long one comes before it. Where
+    /// there is no scan for candidates, the search stays where it is.
+    #[inline(always)]
+    pub(crate) fn look_first(
+        &self,
+        scan: &Option<CandidateScan>,
+        classes: &[u8; 256],
+        haystack: &[u8],
+        span: Span,
+        front: Front,
+        limit: usize,
+        tally: &mut Tally,
+    ) -> Result<Looked, Damaged>
+        requires safe { IsSafe self.now }
+        requires same { HasBytes self.now classes.now }
+        requires limit { IsLimit self.now limit }
+        requires valid { IsValidSpan haystack.now span }
+        requires after { span.start ≤ front.at }
+        requires inside { front.at ≤ span.end }
+        requires for_patterns { AreFor self.now scan.now }
+        ensures first { ForBackward self.now (λ tables. IsOkAnd result (λ looked.
+            IsFirstBegun tables haystack.now span.end (between front.at looked.front.at) looked.first)) }
+        ensures inside { IfOk result (λ looked. LiesInPart front.at span.end looked.first) }
+        ensures later { IfOk result (λ looked. (front.at ≤ looked.front.at) × (looked.front.at ≤ span.end)) }
+        ensures front { (base : ℕ) → IsFront self.now span (owed_by scan.now) base tally.old.scanned front
+            → IfOk result (λ looked. IsNone looked.first
+            → IsFront self.now span (owed_by scan.now) base tally.new.scanned looked.front) }
+        ensures found { (base : ℕ) → IsFront self.now span (owed_by scan.now) base tally.old.scanned front
+            → IfOk result (λ looked. IfSome looked.first
+            (λ begun. ReadsFor self.now.table.longest span base tally.new.scanned (Some begun))) }
+        ensures most { (base : ℕ) → IsFront self.now span (owed_by scan.now) base tally.old.scanned front
+            → tally.new.scanned + 3 * span.start ≤ base + 3 * span.end }
+        ensures others { tally.new ≡ record tally.old { scanned = tally.new.scanned } }
+    {
+        if scan.is_none() || front.credit >= PRICE || !self.has_few_states(FEW_STATES_TO_SCAN) {
+            return Ok(Looked { first: None, front });
+        }
+        let len = self.table.longest / 2 + 10;
+        let start = front.at;
+        let end = start + len.min(span.end - start);
+        let part = Span { start, end };
+        let front = Front { at: end, ..front };
+        if let Some(begun) = self.begun_in(classes, haystack, span, part, limit, tally)? {
+            let first = Some(begun);
+            return Ok(Looked { first, front });
+        }
+        let front = self.pass_on(scan, haystack, span, front, tally);
+        Ok(Looked { first: None, front })
     }
 
     /// The leftmost match of a span.
@@ -252,5 +307,35 @@ impl<'t> Backward<'t> {
         };
         let found = self.match_at(haystack, rest, begun.at, begun.code)?;
         Ok(Some(found))
+    }
+
+    /// The match that begins where a span does, by one walk from so far behind it that all that begins there is read.
+    pub fn find_at(
+        &self,
+        haystack: &[u8],
+        span: Span,
+        tally: &mut Tally,
+    ) -> Result<Option<Match>, Damaged>
+        requires safe { IsSafe self.now }
+        requires valid { IsValidSpan haystack.now span }
+        ensures at { ForBackward self.now (λ tables. IsOkAnd result
+            (IsMatchIn tables.search.query tables.search.ignore_case haystack.now span)) }
+        ensures lies { IfOk result (λ answer. IfSome answer (IsMatchBy self.now span span.start)) }
+        ensures others { tally.new ≡ record tally.old { scanned = tally.new.scanned } }
+        ensures most { tally.new.scanned ≤ tally.old.scanned + self.now.table.longest }
+        ensures within { IfOk result (λ _. tally.new.scanned ≤ tally.old.scanned + (span.end - span.start)) }
+        ensures least { IfOk result (λ answer. MatchOption answer (tally.old.scanned ≤ tally.new.scanned)
+            (λ found. tally.old.scanned + found.end ≤ tally.new.scanned + span.start)) }
+    {
+        let (limit, bytes) = (self.table.limit()?, self.table.class_bytes());
+        let classes = &bytes;
+        if span.start == span.end || self.table.longest == 0 {
+            return Ok(None);
+        }
+        if let Some(begun) = self.begun_at(classes, haystack, span, span.start, limit, tally)? {
+            let found = self.match_at(haystack, span, begun.at, begun.code)?;
+            return Ok(Some(found));
+        }
+        Ok(None)
     }
 }

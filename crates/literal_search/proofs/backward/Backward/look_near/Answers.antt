@@ -9,32 +9,25 @@ use Rattle.literal_search.proofs.backward.Backward.look_near.Goals as goal
 pub returns-in_default-clause-found : goal.returns-in_default-clause-found
 returns-in_default-clause-found c = λ search is.
     let piece = c.piece_at-end.result in
-    let first = c.in_ok-first.ensures.first search is piece.end piece.end (omega arith)
-    (c.in_ok-place.ensures.lane search is) (λ k after before. absurd (omega (arith, after, before))) in
     none_in_piece c.args.self.now search is c.args.haystack.now (λ i. omega (arith, c.type_inv.haystack i))
     c.requires.few c.args.span c.requires.valid.in_haystack c.args.at piece c.piece_at-end.ensures.piece
     (subst (IsFirstBegun (back_tables_by search c.args.self.now) c.args.haystack.now piece.reach
-    (between c.args.at piece.end)) c.in_default.is first)
+    (between c.args.at piece.end)) c.in_default.is (c.in_ok-begun.ensures.first search is))
 
 pub returns-in_err-found-clause-found : goal.returns-in_err-found-clause-found
 returns-in_err-found-clause-found c = λ search is.
     let piece = c.piece_at-end.result in
-    let first = c.in_ok-first.ensures.first search is piece.end piece.end (omega arith)
-    (c.in_ok-place.ensures.lane search is) (λ k after before. absurd (omega (arith, after, before))) in
     absurd (c.in_err-found.ensures.leftmost search is
     (subst (IsFirstBegun (back_tables_by search c.args.self.now) c.args.haystack.now piece.reach
-    (between c.args.at piece.end)) c.in-Some.is first).0)
+    (between c.args.at piece.end)) c.in-Some.is (c.in_ok-begun.ensures.first search is)).0)
 
 pub returns-clause-found : goal.returns-clause-found
 returns-clause-found c = λ search is.
     let piece = c.piece_at-end.result in
     let tables = back_tables_by search c.args.self.now in
-    let first = c.in_ok-first.ensures.first search is piece.end piece.end (omega arith)
-    (c.in_ok-place.ensures.lane search is) (λ k after before. absurd (omega (arith, after, before))) in
     let begun = subst (IsFirstBegun tables c.args.haystack.now piece.reach (between c.args.at piece.end)) c.in-Some.is
-    first in
-    let lies = subst (LiesInPart c.args.at piece.end) c.in-Some.is
-    (c.in_ok-first.ensures.inside piece.end (omega arith) tt) in
+    (c.in_ok-begun.ensures.first search is) in
+    let lies = subst (LiesInPart c.args.at piece.end) c.in-Some.is c.in_ok-begun.ensures.inside in
     leftmost_in_piece c.args.self.now search is c.args.haystack.now (λ i. omega (arith, c.type_inv.haystack i))
     c.requires.few c.args.span c.requires.valid.in_haystack c.args.at piece c.piece_at-end.ensures.piece
     c.in_ok-found.found (omega (arith, lies.1, c.in_ok-found.ensures.here))
