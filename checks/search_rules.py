@@ -52,7 +52,7 @@ TICKS = {
     "crates/literal_prefilters/src/prefilter/byte_table.rt": {"ByteTable::find": ("tick_scanned", "9327f693401c")},
     CONFIRMING: {"confirming::confirm": ("tick_tried", ""), "confirming::confirm_by_table": ("tick_tried", "")},
     "crates/literal_search/src/walk.rt": {
-        "Table::code_at": ("tick_scanned", "28ba682a56cc"), "Table::code_by": ("tick_scanned", "e935c45fa3c8"),
+        "Table::code_at": ("tick_scanned", "28ba682a56cc"), "walk::class_by": ("tick_scanned", "5af4fe0d0b4f"),
     },
     "crates/literal_search/src/whole_words.rt": {"Parts::is_word_at": ("tick_scanned", "99fb2808b128")},
 }

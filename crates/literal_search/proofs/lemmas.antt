@@ -12,6 +12,7 @@ pub mod Ends
 pub mod EndsFound
 pub mod FirstSuffix
 pub mod Found
+pub mod Gaps
 pub mod GreedyIn
 pub mod Growing
 pub mod Grown

@@ -10,6 +10,7 @@ pub mod Leftmost
 pub mod Kept
 pub mod LentTables
 pub mod Lists
+pub mod Near
 pub mod NextEnd
 pub mod Overlapping
 pub mod Packed

@@ -12,7 +12,7 @@ use Rattle.literal_fingerprints.specs.declared.pair.RarePair.{RarePair}
 use Rattle.literal_fingerprints.specs.FingerprintsValue.{fingerprints_in}
 use Rattle.literal_search.specs.SearchValue.{CanBeKept, HoldsInClasses, longest_of, SearchValue}
 use Rattle.literal_search.specs.SearchValue.{reversed, unshadowed}
-use Rattle.literal_search.specs.Inside.Classes.{AreClasses, Tells, symbols_in}
+use Rattle.literal_search.specs.Inside.Classes.{AreClasses, LeavesLast, Tells, symbols_in}
 use Rattle.literal_search.specs.Inside.Packed.{unpacked}
 use Rattle.literal_search.specs.States.{IsRowsLength}
 use Rattle.literal_search.specs.Table.{Recognises}
@@ -120,11 +120,12 @@ texts_of t = map (symbols_in t.classes) t.search.query.patterns
 abbrev pub texts_back : BackTables → List (List ℕ)
 texts_back t = reversed (unshadowed t.search.query.kind (texts_of t))
 
--- each byte has a class, by which those of the patterns are told from others; the rows are those of the reversed
--- texts, and no pattern is empty
+-- each byte has a class, by which those of the patterns are told from others, and no pattern has a byte of the last one
+-- unless each byte has its own; the rows are those of the reversed texts, and no pattern is empty
 pub record AreBackTables (t : BackTables) : Type 0 where
   pub classes : AreClasses t.classes t.width
   pub tells : Tells t.search.ignore_case t.classes t.search.query.patterns
+  pub last : LeavesLast t.classes t.width t.search.query.patterns
   pub recognises : Recognises (texts_back t) t.width t.rows
   pub longest : t.longest ≡ longest_of t.search.query.patterns
   pub kept : CanBeKept t.search.query.patterns

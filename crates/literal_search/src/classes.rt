@@ -1,8 +1,8 @@
 //! Classes of bytes: numbers that tell the bytes of the patterns from each other and from all others.
-ghost use Rattle.std.specs.Prelude.{◌≡◌, ◌+◌, ◌<◌, ℕ, true, false, length, map, slice_index_or};
+ghost use Rattle.std.specs.Prelude.{◌≡◌, ◌+◌, ◌<◌, ℕ, true, false, length, map, slice_index, slice_index_or};
 ghost use Rattle.std.specs.Prelude.{◌⊎◌, count_by, min};
 ghost use Rattle.literal_search.specs.SearchValue.{width_for};
-ghost use Rattle.literal_search.specs.Inside.Classes.{AreClasses, AreNumbers, IsFoldOfOne, Marks, Tells};
+ghost use Rattle.literal_search.specs.Inside.Classes.{AreClasses, AreNumbers, IsFoldOfOne, LeavesLast, Marks, Tells};
 ghost use Rattle.literal_search.specs.Inside.Classes.{TellsMarked, folded};
 
 /// How many numbers stand behind the rows of an automaton: from the place of a row on there is one for any class.
@@ -23,6 +23,7 @@ pub struct Classes {
 pub fn classes_for(ignore_case: bool, patterns: &[Vec<u8>]) -> Classes
     ensures classes { AreClasses result.table result.width }
     ensures tells { Tells ignore_case result.table (map (λ pattern. pattern.items) patterns.now) }
+    ensures last { LeavesLast result.table result.width (map (λ pattern. pattern.items) patterns.now) }
     ensures width { result.width ≡ width_for ignore_case (map (λ pattern. pattern.items) patterns.now) }
 {
     let mut seen = [false; 256];
@@ -79,6 +80,8 @@ fn folded_table(ignore_case: bool, seen: &[bool], numbers: &Classes) -> Classes
     requires numbered { AreNumbers seen.now numbers.now.table 256 numbers.now.width }
     ensures classes { AreClasses result.table result.width }
     ensures tells { TellsMarked ignore_case seen.now result.table }
+    ensures last { (byte : ℕ) → byte < 256 → slice_index_or seen.now (folded ignore_case byte) false ≡ true
+        → slice_index result.table byte < numbers.now.width }
     ensures width { result.width ≡ min (numbers.now.width + 1) 256 }
 {
     let mut table = [0; 256];

@@ -3,7 +3,6 @@
 ghost use Rattle.std.specs.Prelude.{◌≡◌, ◌⊎◌, ◌+◌, ◌-◌, ◌*◌, ◌/◌, ◌<◌, ◌≤◌, ◌^◌, ◌%◌, ℕ, length, max, min};
 ghost use Rattle.std.specs.Prelude.{IfOk, IfSome, IsNone, IsTrue, List, MatchOption, Some, ◌↔◌};
 ghost use Rattle.std.specs.Result.{IsOkAnd};
-ghost use Rattle.literal_base.specs.Leftmost.{IsLeftmost};
 ghost use Rattle.literal_base.specs.Occurs.{IsValidSpan, between};
 ghost use Rattle.literal_base.specs.declared.search.Span.{Span};
 ghost use Rattle.literal_search.specs.At.{IsMatchIn};
@@ -14,7 +13,6 @@ ghost use Rattle.literal_search.specs.Inside.Leftmost.{IsFirstBegun, IsFourParts
 ghost use Rattle.literal_search.specs.Inside.Leftmost.{IsLane, IsLed};
 ghost use Rattle.literal_search.specs.Inside.Leftmost.{IsFront, IsLimit, IsPaid, IsPart, IsStep, LiesInPart, ReadsFor};
 ghost use Rattle.literal_search.specs.Inside.Leftmost.{AreFor, ahead_by, owed_by};
-ghost use Rattle.literal_search.specs.SearchValue.{LooksFor};
 
 use crate::backward::{Backward, Begun};
 use crate::prepared::{Damaged, scan_in};
@@ -25,7 +23,7 @@ use literal_base::{Match, Span};
 use literal_fingerprints::CandidateScan;
 
 /// The least length of the parts of the first block through which four walks go at once.
-const FIRST: usize = 16;
+pub(crate) const FIRST: usize = 16;
 
 /// Parts double from block to block until they have at least this length.
 const LAST: usize = 1024;
@@ -36,7 +34,7 @@ const LEAST_PART: usize = 11;
 
 /// Before one walk looks at a candidate, a scan passed over this many bytes, or as many as the longest pattern has,
 /// whichever is more.
-const PRICE: usize = 48;
+pub(crate) const PRICE: usize = 48;
 
 /// The largest number of bytes that count as passed over.
 const MOST_CREDIT: usize = 2048;
@@ -277,7 +275,37 @@ impl<'t> Backward<'t> {
         Ok(first)
     }
 
-    /// What begins at a place of a span, by one walk from so far behind it that all that begins there lies before.
+    /// The first place of a part of a span at which a pattern begins, by one walk from so far behind it that all that
+    /// begins there lies before.
+    #[inline(always)]
+    pub(crate) fn begun_in(
+        &self,
+        classes: &[u8; 256],
+        haystack: &[u8],
+        span: Span,
+        part: Span,
+        limit: usize,
+        tally: &mut Tally,
+    ) -> Result<Option<Begun>, Damaged>
+        requires safe { IsSafe self.now }
+        requires same { HasBytes self.now classes.now }
+        requires limit { IsLimit self.now limit }
+        requires valid { IsValidSpan haystack.now span }
+        requires part { IsPart span part }
+        ensures first { ForBackward self.now (λ tables. IsOkAnd result
+            (IsFirstBegun tables haystack.now span.end part)) }
+        ensures inside { IfOk result (LiesInPart part.start part.end) }
+        ensures others { tally.new ≡ record tally.old { scanned = tally.new.scanned } }
+        ensures most { tally.new.scanned + part.start
+            ≤ tally.old.scanned + min (part.end + (self.now.table.longest - 1)) span.end }
+        ensures all { IfOk result (λ _. tally.new.scanned + part.start
+            ≡ tally.old.scanned + min (part.end + (self.now.table.longest - 1)) span.end) }
+    {
+        let place = self.walk_back(classes, haystack, span, part.end, limit, tally)?;
+        self.first_in(classes, haystack, span, part, place, None, limit, tally)
+    }
+
+    /// What begins at a place of a span, by one walk.
     pub(crate) fn begun_at(
         &self,
         classes: &[u8; 256],
@@ -305,8 +333,7 @@ impl<'t> Backward<'t> {
             start: at,
             end: at + 1,
         };
-        let place = self.walk_back(classes, haystack, span, part.end, limit, tally)?;
-        self.first_in(classes, haystack, span, part, place, None, limit, tally)
+        self.begun_in(classes, haystack, span, part, limit, tally)
     }
 
     /// A place of a span, or its end, before which no pattern begins, by the scan for candidates, if there is one.
@@ -364,14 +391,17 @@ impl<'t> Backward<'t> {
     {
         let part = block.part;
         let (mut first, mut second, mut third, mut fourth) = (0, 0, 0, 0);
-        let (mut passed, mut behind) = (None, None); // (what begins in the next part, its own walk tells)
+        let mut behind = None; // (what begins in the next part, its own walk tells)
         for step in (0..block.lead).rev() {
             let here = at + part + step;
-            first = self.follow(classes, first, haystack, here, limit, &mut passed, tally)?;
+            let one = self.step(classes, first, haystack, here, limit, tally)?;
+            first = (one % ENDS) as usize;
             let here = here + part;
-            second = self.follow(classes, second, haystack, here, limit, &mut passed, tally)?;
+            let two = self.step(classes, second, haystack, here, limit, tally)?;
+            second = (two % ENDS) as usize;
             let here = here + part;
-            third = self.follow(classes, third, haystack, here, limit, &mut passed, tally)?;
+            let three = self.step(classes, third, haystack, here, limit, tally)?;
+            third = (three % ENDS) as usize;
             let here = here + part;
             fourth = self.follow(classes, fourth, haystack, here, limit, &mut behind, tally)?;
         }
@@ -602,7 +632,7 @@ impl<'t> Backward<'t> {
 
     /// How far a search is that passes on by a scan for candidates.
     #[inline(always)]
-    fn pass_on(
+    pub(crate) fn pass_on(
         &self,
         scan: &Option<CandidateScan>,
         haystack: &[u8],
@@ -699,7 +729,7 @@ impl<'t> Backward<'t> {
     /// The first place of a span at which a pattern begins. A scan for candidates passes over bytes. Where it stops,
     /// one walk looks at the place, if it passed over enough; else four walks go through a block, from its end. Each
     /// block is twice as long as the one before it, up to a limit.
-    fn first_begun(
+    pub(crate) fn first_begun(
         &self,
         haystack: &[u8],
         span: Span,
@@ -722,12 +752,17 @@ impl<'t> Backward<'t> {
             credit: 0,
             part: FIRST.max(self.table.longest / 2 + 3),
         };
-        let mut front = self.pass_on(scan, haystack, span, begin, tally);
+        let front = self.pass_on(scan, haystack, span, begin, tally);
         if front.at == span.end {
             return Ok(None);
         }
         let (limit, bytes) = (self.table.limit()?, self.table.class_bytes());
         let classes = &bytes;
+        let near = self.look_first(scan, classes, haystack, span, front, limit, tally)?;
+        if let Some(begun) = near.first {
+            return Ok(Some(begun));
+        }
+        let mut front = near.front;
         while let Some(block) = self.four_parts_at(span, front.at, front.part, owed) {
             let looked = self.look_on(classes, haystack, span, front, block, owed, limit, tally)?;
             if looked.first.is_some() {
@@ -740,59 +775,5 @@ impl<'t> Backward<'t> {
             end: span.end,
         };
         self.first_in(classes, haystack, span, rest, 0, None, limit, tally)
-    }
-
-    /// The leftmost match of a span.
-    pub fn find_in(
-        &self,
-        haystack: &[u8],
-        span: Span,
-        tally: &mut Tally,
-    ) -> Result<Option<Match>, Damaged>
-        requires safe { IsSafe self.now }
-        requires valid { IsValidSpan haystack.now span }
-        ensures leftmost { ForBackward self.now (λ tables. IsOkAnd result
-            (IsLeftmost tables.search.query tables.search.ignore_case haystack.now span)) }
-        ensures lies { IfOk result (λ answer. IfSome answer (IsMatchBy self.now span span.start)) }
-        ensures others { tally.new ≡ record tally.old { scanned = tally.new.scanned } }
-        ensures most { tally.new.scanned ≤ tally.old.scanned + 3 * (span.end - span.start) }
-        ensures counted { IfOk result (λ answer.
-            LooksFor self.now.table.longest span answer tally.old.scanned tally.new.scanned) }
-    {
-        let Some(begun) = self.first_begun(haystack, span, tally)? else {
-            return Ok(None);
-        };
-        let found = self.match_at(haystack, span, begun.at, begun.code)?;
-        Ok(Some(found))
-    }
-
-    /// The match that begins where a span does, by one walk from so far behind it that all that begins there is read.
-    pub fn find_at(
-        &self,
-        haystack: &[u8],
-        span: Span,
-        tally: &mut Tally,
-    ) -> Result<Option<Match>, Damaged>
-        requires safe { IsSafe self.now }
-        requires valid { IsValidSpan haystack.now span }
-        ensures at { ForBackward self.now (λ tables. IsOkAnd result
-            (IsMatchIn tables.search.query tables.search.ignore_case haystack.now span)) }
-        ensures lies { IfOk result (λ answer. IfSome answer (IsMatchBy self.now span span.start)) }
-        ensures others { tally.new ≡ record tally.old { scanned = tally.new.scanned } }
-        ensures most { tally.new.scanned ≤ tally.old.scanned + self.now.table.longest }
-        ensures within { IfOk result (λ _. tally.new.scanned ≤ tally.old.scanned + (span.end - span.start)) }
-        ensures least { IfOk result (λ answer. MatchOption answer (tally.old.scanned ≤ tally.new.scanned)
-            (λ found. tally.old.scanned + found.end ≤ tally.new.scanned + span.start)) }
-    {
-        let (limit, bytes) = (self.table.limit()?, self.table.class_bytes());
-        let classes = &bytes;
-        if span.start == span.end || self.table.longest == 0 {
-            return Ok(None);
-        }
-        if let Some(begun) = self.begun_at(classes, haystack, span, span.start, limit, tally)? {
-            let found = self.match_at(haystack, span, begun.at, begun.code)?;
-            return Ok(Some(found));
-        }
-        Ok(None)
     }
 }

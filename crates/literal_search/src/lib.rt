@@ -15,6 +15,7 @@ mod ends;
 mod grow;
 pub mod laws;
 mod leftmost;
+mod near;
 mod numbers;
 mod overlapping;
 mod patterns;

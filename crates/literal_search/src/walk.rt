@@ -245,10 +245,21 @@ impl<'t> Table<'t> {
             (place + slice_index (classes_by self.now) (slice_index haystack.now at)) }
         ensures ticks { tally.new ≡ record tally.old { scanned = tally.old.scanned + 1 } }
     {
-        tally.tick_scanned();
-        let class = classes[haystack[at] as usize] as usize;
+        let class = class_by(classes, haystack, at, tally);
         self.rows[class..][place]
     }
+}
+
+/// The class of a byte of the haystack, which so counts as scanned.
+#[inline(always)]
+pub(crate) fn class_by(classes: &[u8; 256], haystack: &[u8], at: usize, tally: &mut Tally) -> usize
+    requires { at < length haystack.now }
+    ensures class { result ≡ slice_index classes.now (slice_index haystack.now at) }
+    ensures small { result < 256 }
+    ensures ticks { tally.new ≡ record tally.old { scanned = tally.old.scanned + 1 } }
+{
+    tally.tick_scanned();
+    classes[haystack[at] as usize] as usize
 }
 
 /// Where the row begins to which a number leads with which a match ends.

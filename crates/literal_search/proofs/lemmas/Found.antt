@@ -33,7 +33,7 @@ map_same f g a p each is =
     (sym (get_or-map f a k 0 0 in_a) ∙ (ap (λ l. get_or l k 0) is ∙ get_or-map f p k 0 0 in_p))
     ∙ sym (get_or-map g p k 0 0 in_p)))
 
-folded_is : (ignore_case : Bool) (bytes : List ℕ) → case_folded ignore_case bytes ≡ map (folded ignore_case) bytes
+pub folded_is : (ignore_case : Bool) (bytes : List ℕ) → case_folded ignore_case bytes ≡ map (folded ignore_case) bytes
 folded_is true bytes = refl
 folded_is false bytes = sym (map-id bytes)
 

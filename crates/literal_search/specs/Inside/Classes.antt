@@ -1,6 +1,6 @@
 -- What classes tell of bytes.
-use Rattle.std.specs.Prelude.{◌≡◌, ◌↔◌, ℕ, ◌<◌, ◌≤◌, Bool, true, false, if◌then◌else◌, List, length, map, slice_index}
-use Rattle.std.specs.Prelude.{slice_index_or}
+use Rattle.std.specs.Prelude.{◌≡◌, ◌↔◌, ℕ, ◌+◌, ◌<◌, ◌≤◌, Bool, true, false, if◌then◌else◌, List, length, map}
+use Rattle.std.specs.Prelude.{slice_index, slice_index_or}
 use Rattle.std.specs.Char.{to_ascii_lowercase}
 use Rattle.literal_base.specs.Occurs.{pattern_at}
 
@@ -25,6 +25,12 @@ Tells ignore_case classes patterns =
     (i k byte : ℕ) → i < length patterns → k < length (pattern_at patterns i) → byte < 256
     → (slice_index classes byte ≡ slice_index classes (slice_index (pattern_at patterns i) k))
     ↔ (folded ignore_case byte ≡ folded ignore_case (slice_index (pattern_at patterns i) k))
+
+-- no byte of a pattern has the last class, unless there are 256 classes
+abbrev pub LeavesLast : List ℕ → ℕ → List (List ℕ) → Type 0
+LeavesLast classes width patterns =
+    width < 256 → (i k : ℕ) → i < length patterns → k < length (pattern_at patterns i)
+    → slice_index classes (slice_index (pattern_at patterns i) k) + 1 < width
 
 -- each byte of a pattern is one, and is marked once it is folded
 abbrev pub Marks : Bool → List Bool → List ℕ → Type 0

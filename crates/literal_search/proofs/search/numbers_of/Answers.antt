@@ -51,6 +51,7 @@ returns-clause-kept c =
     let are : AreBackTables t = record {
       classes = c.classes_for-classes.ensures.classes;
       tells = c.classes_for-classes.ensures.tells;
+      last = c.classes_for-classes.ensures.last;
       recognises = c.in_ok-rows.ensures.rows.recognises;
       longest = refl;
       kept = c.requires;

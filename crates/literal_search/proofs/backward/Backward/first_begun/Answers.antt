@@ -1,10 +1,14 @@
-use Rattle.std.proofs.Common.{◌≡◌, ℕ, ◌+◌, ◌-◌, ◌*◌, ◌≤◌, ◌∙◌, IfOk, Err, None, Ok, Option, Result, Some, ap}
+use Rattle.std.proofs.Common.{◌<◌, IfSome, MatchOption, is_some, ◌≡◌, ℕ, ◌+◌, ◌-◌, ◌*◌, ◌≤◌, ◌∙◌, IfOk, Err, None, Ok, Option, Result, Some, ap}
 use Rattle.std.proofs.Common.{arith, inl, inr, refl, subst, sym}
 use Rattle.std.proofs.lemmas.Bool.{cases_lt}
 use Rattle.literal_base.specs.Counts.{Counts}
 use Rattle.literal_search.specs.Inside.Backward.{back_tables_by}
 use Rattle.literal_base.specs.declared.search.Span.{Span}
-use Rattle.literal_search.specs.Inside.Leftmost.{IsFront, LiesInPart, ReadsFor}
+use Rattle.literal_base.specs.Occurs.{between}
+use Rattle.literal_fingerprints.specs.declared.candidates.CandidateScan.{CandidateScan}
+use Rattle.literal_search.specs.Inside.Leftmost.{AreFor, IsFirstBegun, IsFront, LiesInPart, ReadsFor}
+use Rattle.literal_search.specs.Prepared.{scan_by, shortest_by}
+use Rattle.literal_search.specs.declared.backward.Backward.{Backward}
 use Rattle.literal_search.specs.SearchValue.{first_part}
 use Rattle.literal_search.specs.declared.backward.Begun.{Begun}
 use Rattle.literal_search.specs.declared.prepared.Damaged.{Damaged}
@@ -22,48 +26,82 @@ rest_reads longest span old now new at least most inside (Ok (Some begun)) all l
     (omega (arith, all, least), omega (arith, all, most, lies.0, inside))
 rest_reads longest span old now new at least most inside (Err damaged) all lies = all
 
-pub loop-block-init : goal.loop-block-init
-loop-block-init c = record {
-  front = subst (λ n. IsFront c.args.self.now c.args.span n c.args.tally.now.scanned c.pass_on-front.new.tally.scanned
-      c.pass_on-front.result) (sym c.owed_by-owed.ensures)
-      (c.pass_on-front.ensures.front c.args.tally.now.scanned (record {
-        after = omega arith;
-        inside = c.requires.valid.ordered;
-        some = omega arith;
-        long = omega arith;
-        near = λ _. omega arith;
-        least = omega arith;
-        most = omega arith;
-      }));
-  none = c.pass_on-front.ensures.none;
-  others = c.pass_on-front.ensures.others;
+-- a search begins at the start of its span
+begins : (b : Backward) (span : Span) (part old : ℕ) → span.start ≤ span.end → part ≡ first_part b.table.longest
+    → IsFront b span 0 old old (record { at = span.start; credit = 0; part = part })
+begins b span part old ordered part_is = record {
+  after = omega arith;
+  inside = ordered;
+  some = omega (arith, part_is);
+  long = omega (arith, part_is);
+  near = λ _. omega (arith, part_is);
+  least = omega arith;
+  most = omega arith;
 }
+
+-- its scan is for its patterns
+for_scan : (b : Backward) (scan : Option CandidateScan) → MatchOption scan (shortest_by b.prints.now ≡ 0)
+    (λ s. (0 < shortest_by b.prints.now) × (s ≡ scan_by b.prints.now)) → AreFor b scan
+for_scan b None is = λ search are. tt
+for_scan b (Some s) is = λ search are. grind (arith, is, are.prints)
+
+pub pass_on-front-requires-in-Some-four_parts_at-clause-for_patterns :
+    goal.pass_on-front-requires-in-Some-four_parts_at-clause-for_patterns
+pass_on-front-requires-in-Some-four_parts_at-clause-for_patterns c =
+    for_scan c.args.self.now c.scan_in.result c.scan_in.ensures
+
+pub loop-block-init : goal.loop-block-init
+loop-block-init c =
+    let front = c.pass_on-front.ensures.front c.args.tally.now.scanned (begins c.args.self.now c.args.span
+    c.max.result c.args.tally.now.scanned c.requires.valid.ordered (omega arith)) in
+    let near = c.in_ok-near.near in
+    record {
+      front = subst (λ n. IsFront c.args.self.now c.args.span n c.args.tally.now.scanned
+          c.look_first.new.tally.scanned near.front) (sym c.owed_by-owed.ensures)
+          (c.in_ok-near.ensures.front c.args.tally.now.scanned front (ap (λ f. is_some f) c.in_default.is));
+      none = λ search is.
+          let tables = back_tables_by search c.args.self.now in
+          let at = c.pass_on-front.result.at in
+          none_on tables c.args.haystack.now c.args.span.end c.args.span.start at near.front.at
+          (c.pass_on-front.ensures.none search is)
+          (subst (IsFirstBegun tables c.args.haystack.now c.args.span.end (between at near.front.at)) c.in_default.is
+          (c.in_ok-near.ensures.first search is));
+      others = c.in_ok-near.ensures.others
+          ∙ ap (λ (t : Counts). let n : Counts = record t { scanned = c.look_first.new.tally.scanned } in n)
+          c.pass_on-front.ensures.others;
+    }
 
 pub returns-then-front-span-clause-most : goal.returns-then-front-span-clause-most
 returns-then-front-span-clause-most c =
-    let front = c.pass_on-front.ensures.front c.args.tally.now.scanned (record {
-      after = omega arith;
-      inside = c.requires.valid.ordered;
-      some = omega arith;
-      long = omega arith;
-      near = λ _. omega arith;
-      least = omega arith;
-      most = omega arith;
-    }) in
+    let front = c.pass_on-front.ensures.front c.args.tally.now.scanned (begins c.args.self.now c.args.span
+    c.max.result c.args.tally.now.scanned c.requires.valid.ordered (omega arith)) in
     omega (arith, front.most, c.if-front-span.true)
 
 pub returns-then-front-span-clause-counted : goal.returns-then-front-span-clause-counted
 returns-then-front-span-clause-counted c =
-    let front = c.pass_on-front.ensures.front c.args.tally.now.scanned (record {
-      after = omega arith;
-      inside = c.requires.valid.ordered;
-      some = omega arith;
-      long = omega arith;
-      near = λ _. omega arith;
-      least = omega arith;
-      most = omega arith;
-    }) in
+    let front = c.pass_on-front.ensures.front c.args.tally.now.scanned (begins c.args.self.now c.args.span
+    c.max.result c.args.tally.now.scanned c.requires.valid.ordered (omega arith)) in
     omega (arith, front.least, c.if-front-span.true)
+
+pub returns-in_err-near-clause-most : goal.returns-in_err-near-clause-most
+returns-in_err-near-clause-most c =
+    let front = c.pass_on-front.ensures.front c.args.tally.now.scanned (begins c.args.self.now c.args.span
+    c.max.result c.args.tally.now.scanned c.requires.valid.ordered (omega arith)) in
+    omega (arith, c.look_first.ensures.most c.args.tally.now.scanned front)
+
+pub returns-in-Some-clause-most : goal.returns-in-Some-clause-most
+returns-in-Some-clause-most c =
+    let front = c.pass_on-front.ensures.front c.args.tally.now.scanned (begins c.args.self.now c.args.span
+    c.max.result c.args.tally.now.scanned c.requires.valid.ordered (omega arith)) in
+    omega (arith, c.in_ok-near.ensures.most c.args.tally.now.scanned front)
+
+pub returns-in-Some-clause-counted : goal.returns-in-Some-clause-counted
+returns-in-Some-clause-counted c =
+    let old = c.args.tally.now.scanned in
+    let front = c.pass_on-front.ensures.front old (begins c.args.self.now c.args.span
+    c.max.result old c.requires.valid.ordered (omega arith)) in
+    subst (λ f. IfSome f (λ begun. ReadsFor c.args.self.now.table.longest c.args.span old
+    c.look_first.new.tally.scanned (Some begun))) c.in-Some.is (c.in_ok-near.ensures.found old front)
 
 pub returns-then-is_some-clause-first : goal.returns-then-is_some-clause-first
 returns-then-is_some-clause-first c = λ search is.
@@ -90,22 +128,22 @@ loop-block-preserved c =
     let none = sym c.is_some.ensures ∙ c.if-is_some.false in
     record {
       front = subst (λ n. IsFront c.args.self.now c.args.span n c.args.tally.now.scanned
-          c.pass_on-front-in-Some.new.tally.scanned c.pass_on-front-in-Some.result) (sym c.owed_by-owed.ensures)
-          (c.pass_on-front-in-Some.ensures.front c.args.tally.now.scanned
+          c.pass_on-front-in-Some-four_parts_at.new.tally.scanned c.pass_on-front-in-Some-four_parts_at.result) (sym c.owed_by-owed.ensures)
+          (c.pass_on-front-in-Some-four_parts_at.ensures.front c.args.tally.now.scanned
           (c.in_ok-looked.ensures.front c.args.tally.now.scanned so_far.front none));
       none = λ search is.
           let tables = back_tables_by search c.args.self.now in
           let haystack = c.args.haystack.now in
           let end = c.args.span.end in
-          none_on tables haystack end c.args.span.start looked.front.at c.pass_on-front-in-Some.result.at
+          none_on tables haystack end c.args.span.start looked.front.at c.pass_on-front-in-Some-four_parts_at.result.at
           (none_on tables haystack end c.args.span.start c.loop-block.front.at looked.front.at
           (so_far.none search is)
           (no_first tables haystack end c.loop-block.front.at looked.front.at looked.first none
-          (c.in_ok-looked.ensures.first search is))) (c.pass_on-front-in-Some.ensures.none search is);
-      others = c.pass_on-front-in-Some.ensures.others
-          ∙ (ap (λ (t : Counts). let n : Counts = record t { scanned = c.pass_on-front-in-Some.new.tally.scanned } in n)
+          (c.in_ok-looked.ensures.first search is))) (c.pass_on-front-in-Some-four_parts_at.ensures.none search is);
+      others = c.pass_on-front-in-Some-four_parts_at.ensures.others
+          ∙ (ap (λ (t : Counts). let n : Counts = record t { scanned = c.pass_on-front-in-Some-four_parts_at.new.tally.scanned } in n)
           c.in_ok-looked.ensures.others
-          ∙ ap (λ (t : Counts). let n : Counts = record t { scanned = c.pass_on-front-in-Some.new.tally.scanned } in n)
+          ∙ ap (λ (t : Counts). let n : Counts = record t { scanned = c.pass_on-front-in-Some-four_parts_at.new.tally.scanned } in n)
           so_far.others);
     }
 
@@ -128,7 +166,7 @@ returns-clause-counted c =
     let most : c.loop-block.tally.scanned + (span.end - at) + 11 * span.start
     ≤ c.args.tally.now.scanned + 11 * at + 36 * first_part c.args.self.now.table.longest =
     elim (cases_lt at span.end) [
-      | inl before ↦ omega (arith, front.most, front.near before, front.after, c.in_default.ensures.rest refl)
+      | inl before ↦ omega (arith, front.most, front.near before, front.after, c.in_default-four_parts_at.ensures.rest refl)
       | inr not ↦ omega (arith, front.most, front.after, not)
     ] in
     rest_reads c.args.self.now.table.longest span c.args.tally.now.scanned c.loop-block.tally.scanned

@@ -6,27 +6,27 @@ use Rattle.literal_search.proofs.backward.Backward.lead_in_four.Goals as goal
 pub loop-step-init : goal.loop-step-init
 loop-step-init c = grind (arith, lane_begins)
 
-pub returns-in_err-first-clause-led : goal.returns-in_err-first-clause-led
-returns-in_err-first-clause-led c = λ search is.
+pub returns-in_err-one-clause-led : goal.returns-in_err-one-clause-led
+returns-in_err-one-clause-led c = λ search is.
     let at = c.args.at in
     let part = c.args.block.part in
-    absurd (c.in_err-first.ensures.lane search is c.args.span (at + part) (at + (part + c.loop-step.step))
+    absurd (c.in_err-one.ensures.step search is c.args.span (at + part) (at + (part + c.loop-step.step))
     (at + part + (c.loop-step.step - 1)) c.requires.valid.in_haystack (omega arith) refl
     (c.loop-step.invariant.lanes search is).first)
 
-pub returns-in_err-second-clause-led : goal.returns-in_err-second-clause-led
-returns-in_err-second-clause-led c = λ search is.
+pub returns-in_err-two-clause-led : goal.returns-in_err-two-clause-led
+returns-in_err-two-clause-led c = λ search is.
     let at = c.args.at in
     let part = c.args.block.part in
-    absurd (c.in_err-second.ensures.lane search is c.args.span (at + 2 * part)
+    absurd (c.in_err-two.ensures.step search is c.args.span (at + 2 * part)
     (at + part + (part + c.loop-step.step)) (at + part + (c.loop-step.step - 1) + part)
     c.requires.valid.in_haystack (omega arith) refl (c.loop-step.invariant.lanes search is).second)
 
-pub returns-in_err-third-clause-led : goal.returns-in_err-third-clause-led
-returns-in_err-third-clause-led c = λ search is.
+pub returns-in_err-three-clause-led : goal.returns-in_err-three-clause-led
+returns-in_err-three-clause-led c = λ search is.
     let at = c.args.at in
     let part = c.args.block.part in
-    absurd (c.in_err-third.ensures.lane search is c.args.span (at + 3 * part)
+    absurd (c.in_err-three.ensures.step search is c.args.span (at + 3 * part)
     (at + 2 * part + (part + c.loop-step.step)) (at + part + (c.loop-step.step - 1) + part + part)
     c.requires.valid.in_haystack (omega arith) (omega arith) (c.loop-step.invariant.lanes search is).third)
 
@@ -55,20 +55,20 @@ loop-step-preserved c =
     record {
       before = omega (arith, before);
       rows = record {
-        first = c.in_ok-first.ensures.leads;
-        second = c.in_ok-second.ensures.leads;
-        third = c.in_ok-third.ensures.leads;
+        first = c.in_ok-one.ensures.leads;
+        second = c.in_ok-two.ensures.leads;
+        third = c.in_ok-three.ensures.leads;
         fourth = c.in_ok-fourth.ensures.leads;
       };
       lanes = λ search is.
           let lanes = so_far.lanes search is in
           record {
-            first = c.in_ok-first.ensures.lane search is c.args.span (at + part) (at + (part + now))
-                (at + (part + step)) valid (omega arith) (omega arith) lanes.first;
-            second = c.in_ok-second.ensures.lane search is c.args.span (at + 2 * part) (at + part + (part + now))
-                (at + part + (part + step)) valid (omega arith) (omega arith) lanes.second;
-            third = c.in_ok-third.ensures.lane search is c.args.span (at + 3 * part) (at + 2 * part + (part + now))
-                (at + 2 * part + (part + step)) valid (omega arith) (omega arith) lanes.third;
+            first = (c.in_ok-one.ensures.step search is c.args.span (at + part) (at + (part + now))
+                (at + (part + step)) valid (omega arith) (omega arith) lanes.first).lane;
+            second = (c.in_ok-two.ensures.step search is c.args.span (at + 2 * part) (at + part + (part + now))
+                (at + part + (part + step)) valid (omega arith) (omega arith) lanes.second).lane;
+            third = (c.in_ok-three.ensures.step search is c.args.span (at + 3 * part) (at + 2 * part + (part + now))
+                (at + 2 * part + (part + step)) valid (omega arith) (omega arith) lanes.third).lane;
             fourth = c.in_ok-fourth.ensures.lane search is c.args.span (at + 4 * part)
                 (at + 3 * part + (part + now)) (at + 3 * part + (part + step)) valid (omega arith) (omega arith)
                 lanes.fourth;
@@ -81,9 +81,9 @@ loop-step-preserved c =
       lies = c.in_ok-fourth.ensures.lies (at + 4 * part + now) (at + 4 * part + step) (at + 4 * part + lead)
           (omega arith) (omega arith) (omega (arith, before)) so_far.lies;
       counted = c.in_ok-fourth.ensures.ticks
-          ∙ (one_more _ _ (c.in_ok-third.ensures.ticks
-          ∙ one_more _ _ (c.in_ok-second.ensures.ticks
-          ∙ one_more _ _ (c.in_ok-first.ensures.ticks ∙ one_more _ _ so_far.counted)))
+          ∙ (one_more _ _ (c.in_ok-three.ensures.ticks
+          ∙ one_more _ _ (c.in_ok-two.ensures.ticks
+          ∙ one_more _ _ (c.in_ok-one.ensures.ticks ∙ one_more _ _ so_far.counted)))
           ∙ ap (λ (n : ℕ). let n' : Counts = record c.args.tally.now { scanned = n } in n') sum);
     }
 

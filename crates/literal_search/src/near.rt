@@ -1,0 +1,341 @@
+//! The leftmost match of a span. Where patterns are likely to begin at many places, one walk after another goes through
+//! short pieces at its start, which end, where that can be, before a byte that no pattern has.
+ghost use Rattle.std.specs.Prelude.{ℕ, IsNone, Some, ◌≡◌, ◌+◌, ◌-◌, ◌*◌, ◌<◌, ◌≤◌, IfOk, IfSome, MatchOption, min, true};
+ghost use Rattle.std.specs.Result.{IsOkAnd};
+ghost use Rattle.literal_base.specs.Leftmost.{IsLeftmost};
+ghost use Rattle.literal_base.specs.Occurs.{IsValidSpan, between};
+ghost use Rattle.literal_search.specs.At.{IsMatchIn};
+ghost use Rattle.literal_search.specs.Inside.Backward.{ForBackward, IsMatchBy, IsSafe};
+ghost use Rattle.literal_search.specs.Inside.Leftmost.{AreFor, HasBytes, IsFirstBegun, IsFront, IsLimit, LiesInPart};
+ghost use Rattle.literal_search.specs.Inside.Leftmost.{ReadsFor, owed_by};
+ghost use Rattle.literal_search.specs.Inside.Near.{IsGap, IsNear, IsPiece, ReadsNear};
+ghost use Rattle.literal_search.specs.SearchValue.{LooksFor};
+
+use crate::backward::Backward;
+use crate::classes::CLASSES_LEN;
+use crate::leftmost::{FIRST, Front, Looked, PRICE};
+use crate::prepared::Damaged;
+use crate::walk::class_by;
+use literal_base::count::Tally;
+use literal_base::{Match, Span};
+use literal_fingerprints::CandidateScan;
+
+/// How many bytes a piece has at least, if the span has as many.
+const PIECE: usize = 10;
+
+/// How much longer it is than the parts of a block may be, where no such byte is found in its second half.
+const MORE: usize = 8;
+
+/// Pieces begin before this offset in the span.
+const NEAR: usize = 64;
+
+/// A search without a scan begins by pieces, if it has at most so many states for each two patterns.
+const FEW_STATES: usize = 9;
+
+/// The same of a search with a scan, which looks at a piece at its first candidate.
+const FEW_STATES_TO_SCAN: usize = 15;
+
+/// A piece of a span.
+#[derive(Clone, Copy)]
+pub struct Piece {
+    /// Where it ends.
+    pub end: usize,
+    /// Whatever begins in the piece and lies in the span ends before this offset, or there.
+    pub reach: usize,
+}
+
+/// How far a search has come that goes by pieces.
+#[derive(Clone, Copy)]
+pub struct Near {
+    pub found: Option<Match>,
+    /// Where nothing was found, nothing begins before this offset.
+    pub at: usize,
+}
+
+impl<'t> Backward<'t> {
+    /// Whether the automaton has at most so many states for each two patterns: few if these are short and alike, as
+    /// frequent words are. What follows from it only makes a search faster or slower.
+    #[inline(always)]
+    fn has_few_states(&self, most: usize) -> bool
+        requires safe { IsSafe self.now }
+        requires bounded { most ≤ 256 }
+        ensures { result ≡ true → self.now.table.width < 256 }
+    {
+        let width = self.table.width;
+        width < 256
+            && self.table.rows.len() - CLASSES_LEN <= self.lens.len() * (width + 1) * most / 2
+    }
+
+    /// The first offset of a span at which a byte stands that no pattern has.
+    #[inline(always)]
+    fn gap_in(
+        &self,
+        classes: &[u8; 256],
+        haystack: &[u8],
+        span: Span,
+        tally: &mut Tally,
+    ) -> Option<usize>
+        requires valid { IsValidSpan haystack.now span }
+        requires few { self.now.table.width < 256 }
+        ensures inside { IfSome result (λ at. (span.start ≤ at) × (at < span.end)) }
+        ensures gap { IfSome result (IsGap classes.now self.now.table.width haystack.now) }
+        ensures others { tally.new ≡ record tally.old { scanned = tally.new.scanned } }
+        ensures grows { tally.old.scanned ≤ tally.new.scanned }
+        ensures most { MatchOption result (tally.new.scanned + span.start ≤ tally.old.scanned + span.end)
+            (λ at. tally.new.scanned + span.start ≤ tally.old.scanned + at + 1) }
+    {
+        for at in span.start..span.end {
+            if class_by(classes, haystack, at, tally) + 1 == self.table.width {
+                return Some(at);
+            }
+        }
+        None
+    }
+
+    /// The piece that begins at an offset.
+    #[inline(always)]
+    fn piece_at(
+        &self,
+        classes: &[u8; 256],
+        haystack: &[u8],
+        span: Span,
+        at: usize,
+        tally: &mut Tally,
+    ) -> Piece
+        requires valid { IsValidSpan haystack.now span }
+        requires same { HasBytes self.now classes.now }
+        requires few { self.now.table.width < 256 }
+        requires after { span.start ≤ at }
+        requires before { at < span.end }
+        ensures piece { IsPiece self.now haystack.now span at result }
+        ensures others { tally.new ≡ record tally.old { scanned = tally.new.scanned } }
+        ensures grows { tally.old.scanned ≤ tally.new.scanned }
+        ensures most { tally.new.scanned + min (result.end + (self.now.table.longest - 1)) result.reach + 2 * at
+            ≤ tally.old.scanned + 3 * result.end }
+    {
+        let lead = self.table.longest.saturating_sub(1);
+        let part = FIRST.max(self.table.longest / 2 + 3) + MORE;
+        let start = at + PIECE.min(span.end - at);
+        let most = lead.min(part.saturating_mul(2).saturating_sub(lead));
+        let end = start + most.min(span.end - start);
+        match self.gap_in(classes, haystack, Span { start, end }, tally) {
+            Some(end) => Piece { end, reach: end },
+            None => Piece {
+                end: at + part.min(span.end - at),
+                reach: span.end,
+            },
+        }
+    }
+    /// What begins first in the piece that begins at an offset.
+    fn look_near(
+        &self,
+        classes: &[u8; 256],
+        haystack: &[u8],
+        span: Span,
+        at: usize,
+        limit: usize,
+        tally: &mut Tally,
+    ) -> Result<Near, Damaged>
+        requires safe { IsSafe self.now }
+        requires same { HasBytes self.now classes.now }
+        requires limit { IsLimit self.now limit }
+        requires valid { IsValidSpan haystack.now span }
+        requires few { self.now.table.width < 256 }
+        requires after { span.start ≤ at }
+        requires before { at < span.end }
+        ensures found { ForBackward self.now (λ tables. IsOkAnd result
+            (IsNear tables haystack.now (between at span.end))) }
+        ensures lies { IfOk result (λ near. IfSome near.found (IsMatchBy self.now span at)) }
+        ensures inside { IfOk result (λ near. (at < near.at) × (near.at ≤ span.end)) }
+        ensures others { tally.new ≡ record tally.old { scanned = tally.new.scanned } }
+        ensures most { tally.new.scanned + 3 * at ≤ tally.old.scanned + 3 * span.end }
+        ensures counted { IfOk result (ReadsNear self.now.table.longest (between at span.end) tally.old.scanned
+            tally.new.scanned) }
+    {
+        let Piece { end, reach } = self.piece_at(classes, haystack, span, at, tally);
+        let span = Span {
+            start: at,
+            end: reach,
+        };
+        let part = Span { start: at, end };
+        let Some(begun) = self.begun_in(classes, haystack, span, part, limit, tally)? else {
+            return Ok(Near {
+                found: None,
+                at: end,
+            });
+        };
+        let found = self.match_at(haystack, span, begun.at, begun.code)?;
+        Ok(Near {
+            found: Some(found),
+            at: end,
+        })
+    }
+
+    /// The leftmost match near the start of a span, by one piece after another.
+    #[inline(never)]
+    fn find_by_pieces(
+        &self,
+        haystack: &[u8],
+        span: Span,
+        tally: &mut Tally,
+    ) -> Result<Near, Damaged>
+        requires safe { IsSafe self.now }
+        requires few { self.now.table.width < 256 }
+        requires valid { IsValidSpan haystack.now span }
+        ensures found { ForBackward self.now (λ tables. IsOkAnd result (IsNear tables haystack.now span)) }
+        ensures lies { IfOk result (λ near. IfSome near.found (IsMatchBy self.now span span.start)) }
+        ensures inside { IfOk result (λ near. (span.start ≤ near.at) × (near.at ≤ span.end)) }
+        ensures others { tally.new ≡ record tally.old { scanned = tally.new.scanned } }
+        ensures most { tally.new.scanned ≤ tally.old.scanned + 3 * (span.end - span.start) }
+        ensures counted { IfOk result
+            (ReadsNear self.now.table.longest span tally.old.scanned tally.new.scanned) }
+    {
+        let (limit, bytes) = (self.table.limit()?, self.table.class_bytes());
+        let classes = &bytes;
+        let end = span.start + NEAR.min(span.end - span.start);
+        let mut at = span.start;
+        while at < end {
+            let near = self.look_near(classes, haystack, span, at, limit, tally)?;
+            if near.found.is_some() {
+                return Ok(near);
+            }
+            at = near.at;
+        }
+        Ok(Near { found: None, at })
+    }
+
+    /// The leftmost match near the start of a span, by pieces, if patterns are likely to begin at many
+    /// places.
+    #[inline(always)]
+    fn find_near(&self, haystack: &[u8], span: Span, tally: &mut Tally) -> Result<Near, Damaged>
+        requires safe { IsSafe self.now }
+        requires valid { IsValidSpan haystack.now span }
+        ensures found { ForBackward self.now (λ tables. IsOkAnd result (IsNear tables haystack.now span)) }
+        ensures lies { IfOk result (λ near. IfSome near.found (IsMatchBy self.now span span.start)) }
+        ensures inside { IfOk result (λ near. (span.start ≤ near.at) × (near.at ≤ span.end)) }
+        ensures others { tally.new ≡ record tally.old { scanned = tally.new.scanned } }
+        ensures most { tally.new.scanned ≤ tally.old.scanned + 3 * (span.end - span.start) }
+        ensures counted { IfOk result
+            (ReadsNear self.now.table.longest span tally.old.scanned tally.new.scanned) }
+    {
+        if self.prints[0] == 0 && self.has_few_states(FEW_STATES) {
+            return self.find_by_pieces(haystack, span, tally);
+        }
+        Ok(Near {
+            found: None,
+            at: span.start,
+        })
+    }
+
+    /// What begins in a short piece from the first candidate on, by one walk, if no long one comes before it. Where
+    /// there is no scan for candidates, the search stays where it is.
+    #[inline(always)]
+    pub(crate) fn look_first(
+        &self,
+        scan: &Option<CandidateScan>,
+        classes: &[u8; 256],
+        haystack: &[u8],
+        span: Span,
+        front: Front,
+        limit: usize,
+        tally: &mut Tally,
+    ) -> Result<Looked, Damaged>
+        requires safe { IsSafe self.now }
+        requires same { HasBytes self.now classes.now }
+        requires limit { IsLimit self.now limit }
+        requires valid { IsValidSpan haystack.now span }
+        requires after { span.start ≤ front.at }
+        requires inside { front.at ≤ span.end }
+        requires for_patterns { AreFor self.now scan.now }
+        ensures first { ForBackward self.now (λ tables. IsOkAnd result (λ looked.
+            IsFirstBegun tables haystack.now span.end (between front.at looked.front.at) looked.first)) }
+        ensures inside { IfOk result (λ looked. LiesInPart front.at span.end looked.first) }
+        ensures later { IfOk result (λ looked. (front.at ≤ looked.front.at) × (looked.front.at ≤ span.end)) }
+        ensures front { (base : ℕ) → IsFront self.now span (owed_by scan.now) base tally.old.scanned front
+            → IfOk result (λ looked. IsNone looked.first
+            → IsFront self.now span (owed_by scan.now) base tally.new.scanned looked.front) }
+        ensures found { (base : ℕ) → IsFront self.now span (owed_by scan.now) base tally.old.scanned front
+            → IfOk result (λ looked. IfSome looked.first
+            (λ begun. ReadsFor self.now.table.longest span base tally.new.scanned (Some begun))) }
+        ensures most { (base : ℕ) → IsFront self.now span (owed_by scan.now) base tally.old.scanned front
+            → tally.new.scanned + 3 * span.start ≤ base + 3 * span.end }
+        ensures others { tally.new ≡ record tally.old { scanned = tally.new.scanned } }
+    {
+        if scan.is_none() || front.credit >= PRICE || !self.has_few_states(FEW_STATES_TO_SCAN) {
+            return Ok(Looked { first: None, front });
+        }
+        let len = self.table.longest / 2 + 10;
+        let start = front.at;
+        let end = start + len.min(span.end - start);
+        let part = Span { start, end };
+        let front = Front { at: end, ..front };
+        if let Some(begun) = self.begun_in(classes, haystack, span, part, limit, tally)? {
+            let first = Some(begun);
+            return Ok(Looked { first, front });
+        }
+        let front = self.pass_on(scan, haystack, span, front, tally);
+        Ok(Looked { first: None, front })
+    }
+
+    /// The leftmost match of a span.
+    pub fn find_in(
+        &self,
+        haystack: &[u8],
+        span: Span,
+        tally: &mut Tally,
+    ) -> Result<Option<Match>, Damaged>
+        requires safe { IsSafe self.now }
+        requires valid { IsValidSpan haystack.now span }
+        ensures leftmost { ForBackward self.now (λ tables. IsOkAnd result
+            (IsLeftmost tables.search.query tables.search.ignore_case haystack.now span)) }
+        ensures lies { IfOk result (λ answer. IfSome answer (IsMatchBy self.now span span.start)) }
+        ensures others { tally.new ≡ record tally.old { scanned = tally.new.scanned } }
+        ensures most { tally.new.scanned ≤ tally.old.scanned + 3 * (span.end - span.start) }
+        ensures counted { IfOk result (λ answer.
+            LooksFor self.now.table.longest span answer tally.old.scanned tally.new.scanned) }
+    {
+        let near = self.find_near(haystack, span, tally)?;
+        if near.found.is_some() {
+            return Ok(near.found);
+        }
+        let rest = Span {
+            start: near.at,
+            end: span.end,
+        };
+        let Some(begun) = self.first_begun(haystack, rest, tally)? else {
+            return Ok(None);
+        };
+        let found = self.match_at(haystack, rest, begun.at, begun.code)?;
+        Ok(Some(found))
+    }
+
+    /// The match that begins where a span does, by one walk from so far behind it that all that begins there is read.
+    pub fn find_at(
+        &self,
+        haystack: &[u8],
+        span: Span,
+        tally: &mut Tally,
+    ) -> Result<Option<Match>, Damaged>
+        requires safe { IsSafe self.now }
+        requires valid { IsValidSpan haystack.now span }
+        ensures at { ForBackward self.now (λ tables. IsOkAnd result
+            (IsMatchIn tables.search.query tables.search.ignore_case haystack.now span)) }
+        ensures lies { IfOk result (λ answer. IfSome answer (IsMatchBy self.now span span.start)) }
+        ensures others { tally.new ≡ record tally.old { scanned = tally.new.scanned } }
+        ensures most { tally.new.scanned ≤ tally.old.scanned + self.now.table.longest }
+        ensures within { IfOk result (λ _. tally.new.scanned ≤ tally.old.scanned + (span.end - span.start)) }
+        ensures least { IfOk result (λ answer. MatchOption answer (tally.old.scanned ≤ tally.new.scanned)
+            (λ found. tally.old.scanned + found.end ≤ tally.new.scanned + span.start)) }
+    {
+        let (limit, bytes) = (self.table.limit()?, self.table.class_bytes());
+        let classes = &bytes;
+        if span.start == span.end || self.table.longest == 0 {
+            return Ok(None);
+        }
+        if let Some(begun) = self.begun_at(classes, haystack, span, span.start, limit, tally)? {
+            let found = self.match_at(haystack, span, begun.at, begun.code)?;
+            return Ok(Some(found));
+        }
+        Ok(None)
+    }
+}
