@@ -10,8 +10,8 @@ use Rattle.literal_base.specs.MatchValue.{MatchValue}
 use Rattle.literal_base.specs.Occurs.{Occurs, between, pattern_at}
 use Rattle.literal_base.specs.Query.{Query}
 use Rattle.literal_base.specs.declared.search.Span.{Span}
-use Rattle.literal_search.specs.MatchesValue.{place_behind}
-use Rattle.literal_search.specs.SearchValue.{SearchValue, longest_of}
+use Rattle.literal_search.specs.MatchesValue.{LooksOn, place_behind, place_further}
+use Rattle.literal_search.specs.SearchValue.{SearchValue, longest_of, looked_upto}
 use Rattle.literal_search.specs.declared.backward.TheConstants.{LEAST}
 
 -- a `WholeWords` as contracts see it: what is searched for, and a test for each byte whether it is a word byte
@@ -86,10 +86,13 @@ pub record GivesWholeWord (old : WholeWordMatchesValue) (answer : Option MatchVa
     : Type 0 where
   pub leftmost : IsFirstAlone old.words old.haystack (between old.at old.span.end) answer
   pub not_empty : IfSome answer (λ found. found.start < found.end)
-  pub from : ℕ
   pub known : ℕ
-  pub goes_on : new ≡ record old { at = place_behind old.span answer; from = from; known = known }
-  pub inside : (from ≤ old.span.end) × (known ≤ old.span.end)
+  pub goes_on : new ≡ record old {
+    at = place_behind old.span answer;
+    from = place_further old.span answer;
+    known = known;
+  }
+  pub looks : LooksOn (longest_of old.words.search.query.patterns) old.span old.known new.known new.from
 
 -- at most how many whole words are to come: each takes a byte or more of the rest
 abbrev pub most_words_to_come : WholeWordMatchesValue → Count
@@ -99,10 +102,20 @@ most_words_to_come m = at_most (m.span.end - m.at)
 abbrev pub most_at_start : List (List ℕ) → ℕ
 most_at_start patterns = (longest_of patterns + 1) * (longest_of patterns + 1)
 
--- what is scanned while an iteration gets from one place to another, and is known up to another what begins: if no
--- pattern is longer than a block, at most three times the bytes by which it is known further, and so many for each byte
--- by which it gets on
-pub record ScansWords (patterns : List (List ℕ)) (from upto known further : ℕ) (old new : Counts) : Type 0 where
+-- what is scanned while an iteration gets from one place to another, and looks further. If no pattern is longer than a
+-- block, it is at most three times the bytes by which it looks further, and so many for each byte by which the iteration
+-- gets on; and it is at least the bytes that had not been looked up
+pub record ScansWords (patterns : List (List ℕ)) (span : Span) (from upto known further : ℕ) (old new : Counts)
+    : Type 0 where
   pub others : new ≡ record old { scanned = new.scanned }
   pub most : longest_of patterns ≤ LEAST → new.scanned + 3 * known + from * most_at_start patterns
       ≤ old.scanned + 3 * further + upto * most_at_start patterns
+  pub least : longest_of patterns ≤ LEAST
+      → old.scanned + looked_upto patterns span further ≤ new.scanned + looked_upto patterns span known
+
+-- what the search for the first whole word scans: what an iteration does from the start of the span on
+pub record ScansFirstWord (patterns : List (List ℕ)) (span : Span) (answer : Option MatchValue) (old new : Counts)
+    : Type 0 where
+  pub known : ℕ
+  pub looks : LooksOn (longest_of patterns) span span.start known (place_further span answer)
+  pub scans : ScansWords patterns span span.start (place_further span answer) span.start known old new

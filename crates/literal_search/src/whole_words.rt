@@ -5,11 +5,11 @@ ghost use Rattle.literal_base.specs.Bytes.{contains};
 ghost use Rattle.literal_base.specs.Given.{CanBeTaken};
 ghost use Rattle.literal_base.specs.Occurs.{IsValidSpan, between, pattern_at, whole_of};
 ghost use Rattle.literal_base.specs.declared.packed.MatchKind.TheVariants.{LeftmostFirst, LeftmostLongest};
-ghost use Rattle.literal_search.specs.MatchesValue.{place_behind};
+ghost use Rattle.literal_search.specs.MatchesValue.{place_behind, place_further};
 ghost use Rattle.literal_search.specs.SearchValue.{BuildsSearch, NeedTooManyReversed, RefusesSearch};
 ghost use Rattle.literal_search.specs.WholeWords.{AreWholeWords, GivesWholeWord, IsFirstAlone};
-ghost use Rattle.literal_search.specs.WholeWords.{NothingAlone, OccursAlone, ScansWords, is_ascii_word_byte};
-ghost use Rattle.literal_search.specs.WholeWords.{is_word_at, is_word_before, most_words_to_come};
+ghost use Rattle.literal_search.specs.WholeWords.{NothingAlone, OccursAlone, ScansFirstWord, ScansWords};
+ghost use Rattle.literal_search.specs.WholeWords.{is_ascii_word_byte, is_word_at, is_word_before, most_words_to_come};
 ghost use Rattle.literal_search.specs.Inside.WholeWords.{AreStartsOf, AreWordParts, IsBestWord, IsEarlier, IsWordAt};
 ghost use Rattle.literal_search.specs.Inside.WholeWords.{ScansEnds, whole_words_value};
 
@@ -124,14 +124,13 @@ impl WholeWords {
     }
 
     /// Answers as [`WholeWords::find_in`], and adds each byte that it looks up to a tally, as scanned. If no pattern
-    /// has more than 1,024 bytes, these are at most three times the bytes of the span, and for each of these bytes the
-    /// square of one more than the length of the longest pattern.
+    /// has more than 1,024 bytes, these are at most three times the bytes of the span, and for each byte up to the
+    /// start of the match the square of one more than the length of the longest pattern.
     pub fn find_in_counted(&self, haystack: &[u8], span: Span, tally: &mut Tally) -> Option<Match>
         requires { IsValidSpan haystack.now span }
         ensures leftmost { IsFirstAlone self.now haystack.now span result }
         ensures not_empty { IfSome result (λ found. found.start < found.end) }
-        ensures bounded { ScansWords self.now.search.query.patterns span.start span.end span.start span.end tally.old
-            tally.new }
+        ensures bounded { ScansFirstWord self.now.search.query.patterns span result tally.old tally.new }
     {
         let starts = &mut self.parts.search.starts_in(haystack, span);
         self.parts.next_word(haystack, starts, span.start, tally)
@@ -265,9 +264,11 @@ impl Parts {
             (between at starts.old.span.end) result }
         ensures not_empty { IfSome result (λ found. found.start < found.end) }
         ensures same { starts.new ≡ record starts.old { at = starts.new.at; known = starts.new.known } }
+        ensures at { starts.new.at ≡ place_further starts.old.span result }
+        ensures further { starts.old.known ≤ starts.new.known }
         ensures before { AreStartsOf self.now haystack.now (place_behind starts.old.span result) starts.new }
-        ensures scans { ScansWords self.now.search.query.patterns starts.old.at starts.new.at starts.old.known
-            starts.new.known tally.old tally.new }
+        ensures scans { ScansWords self.now.search.query.patterns starts.old.span starts.old.at starts.new.at
+            starts.old.known starts.new.known tally.old tally.new }
     {
         while let Some(found) = starts.next_counted(tally) {
             if found.start() < at {
@@ -346,6 +347,7 @@ impl Parts {
         ensures told { result ≡ is_word_before self.now.word_bytes haystack.now at }
         ensures others { tally.new ≡ record tally.old { scanned = tally.new.scanned } }
         ensures most { tally.new.scanned ≤ tally.old.scanned + 1 }
+        ensures least { tally.old.scanned ≤ tally.new.scanned }
     {
         at > 0 && self.is_word_at(haystack, at - 1, tally)
     }
@@ -356,6 +358,7 @@ impl Parts {
         ensures told { result ≡ is_word_at self.now.word_bytes haystack.now at }
         ensures others { tally.new ≡ record tally.old { scanned = tally.new.scanned } }
         ensures most { tally.new.scanned ≤ tally.old.scanned + 1 }
+        ensures least { tally.old.scanned ≤ tally.new.scanned }
     {
         if at == haystack.len() {
             return false;
@@ -412,8 +415,8 @@ impl<'s, 'h> WholeWordMatches<'s, 'h> {
     /// bytes, a whole iteration looks up at most what [`WholeWords::find_in_counted`] does where it finds nothing.
     pub fn next_counted(&mut self, tally: &mut Tally) -> Option<Match>
         ensures gives { GivesWholeWord self.old result self.new }
-        ensures scans { ScansWords self.old.words.search.query.patterns self.old.from self.new.from self.old.known
-            self.new.known tally.old tally.new }
+        ensures scans { ScansWords self.old.words.search.query.patterns self.old.span self.old.from self.new.from
+            self.old.known self.new.known tally.old tally.new }
     {
         let (span, parts) = (self.span, self.parts);
         let answer = parts.next_word(self.haystack, &mut self.starts, self.at, tally);

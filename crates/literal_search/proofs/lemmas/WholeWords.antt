@@ -1,6 +1,6 @@
 -- The whole words that begin at one offset.
 use Rattle.std.proofs.Common.{◌≡◌, ◌∙◌, ◌+◌, ◌-◌, ◌*◌, ◌<◌, ◌≤◌, ℕ, IfSome, List, [], MatchOption, None, Option, Some}
-use Rattle.std.proofs.Common.{ap, arith, inl, inr, length, subst, sym}
+use Rattle.std.proofs.Common.{◌++◌, ◌∷◌, ap, append_assoc, arith, inl, inr, length, refl, subst, sym}
 use Rattle.std.proofs.Math.Nat.{mul-le-mul_right}
 use Rattle.std.proofs.lemmas.Bool.{cases_lt}
 use Rattle.std.proofs.lemmas.List.Elements.{All-get_or}
@@ -9,11 +9,12 @@ use Rattle.literal_base.specs.Leftmost.{IsBetter, IsLeftmost, IsLeftmostMatch}
 use Rattle.literal_base.specs.MatchValue.{MatchValue}
 use Rattle.literal_base.specs.Occurs.{between, pattern_at}
 use Rattle.literal_base.specs.declared.search.Span.{Span}
-use Rattle.literal_search.specs.Inside.WholeWords.{AreStartsOf, AreWordParts, IsBestWord, IsWordAt, ScansEnds}
-use Rattle.literal_search.specs.Inside.WholeWords.{whole_words_value}
-use Rattle.literal_search.specs.MatchesValue.{GivesStart, MatchesValue}
-use Rattle.literal_search.specs.SearchValue.{ScansNext, SearchValue, longest_of}
-use Rattle.literal_search.specs.WholeWords.{IsLeftmostAlone, OccursAlone, ScansWords, most_at_start}
+use Rattle.literal_search.specs.Inside.WholeWords.{AreStartsOf, AreWordParts, AreWordsUpTo, IsBestWord, IsWordAt}
+use Rattle.literal_search.specs.Inside.WholeWords.{ScansEnds, whole_words_value}
+use Rattle.literal_search.specs.MatchesValue.{GivesStart, MatchesValue, place_further}
+use Rattle.literal_search.specs.SearchValue.{ScansNext, SearchValue, longest_of, looked_upto}
+use Rattle.literal_search.specs.WholeWords.{IsFirstAlone, IsLeftmostAlone, OccursAlone, ScansFirstWord, ScansWords}
+use Rattle.literal_search.specs.WholeWords.{WholeWordsValue, most_at_start}
 use Rattle.literal_search.specs.declared.whole_words.Parts.{Parts}
 use Rattle.literal_search.proofs.lemmas.Iterations.{scanned_on}
 use Rattle.literal_search.proofs.lemmas.Longest.{longest_is}
@@ -21,10 +22,18 @@ use Rattle.literal_search.proofs.lemmas.Longest.{longest_is}
 -- what is scanned while an end gets on by one byte or more
 pub ends_on : (p : Parts) (start at end : ℕ) (old now new : Counts) → ScansEnds p at end old now
     → new ≡ record now { scanned = new.scanned }
-    → new.scanned ≤ now.scanned + (longest_of p.search.query.patterns + 1) → start + 1 ≤ at
-    → ScansEnds p start end old new
-ends_on p start at end old now new so_far others most less =
+    → new.scanned ≤ now.scanned + (longest_of p.search.query.patterns + 1) → now.scanned ≤ new.scanned
+    → start + 1 ≤ at → ScansEnds p start end old new
+ends_on p start at end old now new so_far others most least less =
     let times = mul-le-mul_right (longest_of p.search.query.patterns + 1) less in grind arith
+
+-- nothing is scanned
+pub ends_none : (p : Parts) (start end : ℕ) (now : Counts) → start ≤ end → ScansEnds p start end now now
+ends_none p start end now before = record {
+  others = refl;
+  most = omega (arith, mul-le-mul_right (longest_of p.search.query.patterns + 1) before);
+  least = omega arith;
+}
 
 -- no pattern is empty
 pub is_some : (p : Parts) → AreWordParts p → (i : ℕ) → i < length p.search.query.patterns
@@ -34,15 +43,22 @@ is_some p parts i is =
 
 -- what is scanned with one byte before, by an answer that is no whole word before a start
 pub ends_whole : (p : Parts) (start end : ℕ) (old now new : Counts) (answer : Option MatchValue)
-    → now ≡ record old { scanned = now.scanned } → now.scanned ≤ old.scanned + 1
+    → now ≡ record old { scanned = now.scanned } → now.scanned ≤ old.scanned + 1 → old.scanned ≤ now.scanned
     → MatchOption answer (ScansEnds p start end now new) (λ found. ScansEnds p (found.end - 1) end now new)
     → IfSome answer (λ found. start < found.end) → ScansEnds p start (end + 1) old new
-ends_whole p start end old now new None others most scans after =
-    record { others = scanned_on old now new others scans.others; most = omega (arith, scans.most, most) }
-ends_whole p start end old now new (Some found) others most scans after =
+ends_whole p start end old now new None others most least scans after = record {
+  others = scanned_on old now new others scans.others;
+  most = omega (arith, scans.most, most);
+  least = omega (arith, least, scans.least);
+}
+ends_whole p start end old now new (Some found) others most least scans after =
     let less : start ≤ found.end - 1 = omega (arith, after) in
     let times = mul-le-mul_right (longest_of p.search.query.patterns + 1) less in
-    record { others = scanned_on old now new others scans.others; most = omega (arith, scans.most, most, times) }
+    record {
+      others = scanned_on old now new others scans.others;
+      most = omega (arith, scans.most, most, times);
+      least = omega (arith, least, scans.least);
+    }
 
 -- the next start by an iteration over starts
 pub start_found : (p : Parts) (haystack : List ℕ) (at : ℕ) (first old new : MatchesValue) (answer : Option MatchValue)
@@ -132,47 +148,51 @@ module _ (p : Parts) (parts : AreWordParts p) (haystack : List ℕ) (at from end
 
 -- what is scanned until the next start, and there
 pub words_on : (patterns : List (List ℕ)) (span : Span) (first old known before further : ℕ) (found : MatchValue)
-    (t0 t1 t2 t3 : Counts) → ScansWords patterns first old known before t0 t1
+    (t0 t1 t2 t3 : Counts) → ScansWords patterns span first old known before t0 t1
     → ScansNext (longest_of patterns) span old before further (Some found) t1 t2 → before ≤ further
     → t3 ≡ record t2 { scanned = t3.scanned }
     → t3.scanned + found.start * (longest_of patterns + 1)
     ≤ t2.scanned + (found.end + 1) * (longest_of patterns + 1)
-    → found.end ≤ found.start + longest_of patterns → old ≤ found.start
-    → ScansWords patterns first (found.start + 1) known further t0 t3
-words_on patterns span first old known before further found t0 t1 t2 t3 so_far next later same most short on = record {
-  others = scanned_on t0 t2 t3 (scanned_on t0 t1 t2 so_far.others next.others) same;
-  most = λ small.
-      let w = longest_of patterns + 1 in
-      let ends : found.end + 1 ≤ found.start + w = omega (arith, short) in
-      let starts : old + 1 ≤ found.start + 1 = omega (arith, on) in
-      omega (
-        arith,
-        so_far.most small,
-        next.marked small,
-        later,
-        most,
-        mul-le-mul_right w ends,
-        mul-le-mul_right (most_at_start patterns) starts,
-      );
-}
+    → t2.scanned ≤ t3.scanned → found.end ≤ found.start + longest_of patterns → old ≤ found.start
+    → ScansWords patterns span first (found.start + 1) known further t0 t3
+words_on patterns span first old known before further found t0 t1 t2 t3 so_far next later same most more short on =
+    record {
+      others = scanned_on t0 t2 t3 (scanned_on t0 t1 t2 so_far.others next.others) same;
+      most = λ small.
+          let w = longest_of patterns + 1 in
+          let ends : found.end + 1 ≤ found.start + w = omega (arith, short) in
+          let starts : old + 1 ≤ found.start + 1 = omega (arith, on) in
+          omega (
+            arith,
+            so_far.most small,
+            next.marked small,
+            later,
+            most,
+            mul-le-mul_right w ends,
+            mul-le-mul_right (most_at_start patterns) starts,
+          );
+      least = λ small. omega (arith, so_far.least small, next.least small, more);
+    }
 
 module _ (p : Parts) (haystack : List ℕ) (at : ℕ) (first old new : MatchesValue) (found : MatchValue)
     (starts : AreStartsOf p haystack at first) (same : old ≡ record first { at = old.at; known = old.known })
     (gives : GivesStart old (Some found) new) where
   -- where the starts go on
   pub start_on : (new ≡ record first { at = found.start + 1; known = new.known }) × (new.known ≤ first.span.end)
+      × (old.known ≤ new.known)
+      × (found.start + 1 ≤ looked_upto p.search.query.patterns first.span new.known)
   start_on = grind arith
 
   -- what is scanned until then
   pub starts_scan : (t0 t1 t2 t3 : Counts)
-      → ScansWords p.search.query.patterns first.at old.at first.known old.known t0 t1
+      → ScansWords p.search.query.patterns first.span first.at old.at first.known old.known t0 t1
       → ScansNext (longest_of old.search.query.patterns) old.span old.at old.known new.known (Some found) t1 t2
       → (span : Span) → span ≡ between found.start found.end → ScansEnds p span.start (span.end + 1) t2 t3
-      → ScansWords p.search.query.patterns first.at new.at first.known new.known t0 t3
+      → ScansWords p.search.query.patterns first.span first.at new.at first.known new.known t0 t3
   starts_scan t0 t1 t2 t3 so_far next span is scans =
       let patterns = p.search.query.patterns in
       let leftmost = start_found p haystack at first old new (Some found) starts same gives in
-      subst (λ n. ScansWords patterns first.at n first.known new.known t0 t3)
+      subst (λ n. ScansWords patterns first.span first.at n first.known new.known t0 t3)
       (sym (ap (λ (m : MatchesValue). m.at) gives.goes_on))
       (words_on patterns first.span first.at old.at first.known old.known new.known found t0 t1 t2 t3 so_far
       (subst (λ (s : SearchValue). ScansNext (longest_of s.query.patterns) first.span old.at old.known new.known
@@ -180,33 +200,41 @@ module _ (p : Parts) (haystack : List ℕ) (at : ℕ) (first old new : MatchesVa
       (subst (λ (m : MatchesValue). ScansNext (longest_of m.search.query.patterns) m.span old.at old.known new.known
       (Some found) t1 t2) same next)) gives.looks.further scans.others
       (subst (λ (s : Span). t3.scanned + s.start * (longest_of patterns + 1)
-      ≤ t2.scanned + (s.end + 1) * (longest_of patterns + 1)) is scans.most)
+      ≤ t2.scanned + (s.end + 1) * (longest_of patterns + 1)) is scans.most) scans.least
       (omega (arith, leftmost.whole, longest_is patterns found.pattern)) leftmost.occurs.after_start)
 
 -- what is scanned from the start of a span on until a whole word is found, or none
-pub scan_whole : (p : Parts) (haystack : List ℕ) (span : Span) (first new : MatchesValue) (place : ℕ) (t0 t1 : Counts)
-    → first ≡ record {
+pub scan_whole : (p : Parts) (haystack : List ℕ) (span : Span) (first new : MatchesValue) (place : ℕ)
+    (answer : Option MatchValue) (t0 t1 : Counts) → first ≡ record {
       search = p.search;
       haystack = haystack;
       span = span;
       at = span.start;
       known = span.start;
-    } → new ≡ record first { at = new.at; known = new.known } → AreStartsOf p haystack place new
-    → ScansWords p.search.query.patterns first.at new.at first.known new.known t0 t1
-    → ScansWords p.search.query.patterns span.start span.end span.start span.end t0 t1
-scan_whole p haystack span first new place t0 t1 is same before scans =
-    let from = subst (λ (m : MatchesValue). ScansWords p.search.query.patterns m.at new.at m.known new.known t0 t1) is
-    scans in
-    let end : new.span.end ≡ span.end = ap (λ (m : MatchesValue). m.span.end) same
-    ∙ ap (λ (m : MatchesValue). m.span.end) is in
-    let inside : new.at ≤ span.end = omega (arith, end, before.before, before.inside) in
+    } → new ≡ record first { at = new.at; known = new.known } → new.at ≡ place_further first.span answer
+    → first.known ≤ new.known → AreStartsOf p haystack place new
+    → ScansWords p.search.query.patterns first.span first.at new.at first.known new.known t0 t1
+    → ScansFirstWord p.search.query.patterns span answer t0 t1
+scan_whole p haystack span first new place answer t0 t1 is same at further before scans =
+    let at_is : new.at ≡ place_further span answer =
+    subst (λ (m : MatchesValue). new.at ≡ place_further m.span answer) is at in
+    let within : new.span ≡ span = ap (λ (m : MatchesValue). m.span) same ∙ ap (λ (m : MatchesValue). m.span) is in
     record {
-      others = from.others;
-      most = λ small. omega (
-        arith,
-        from.most small,
-        end,
-        before.known,
-        mul-le-mul_right (most_at_start p.search.query.patterns) inside,
-      );
+      known = new.known;
+      looks = record {
+        further = subst (λ (m : MatchesValue). m.known ≤ new.known) is further;
+        inside = subst (λ (s : Span). new.known ≤ s.end) within before.known;
+        looked = subst (λ n. n ≤ looked_upto p.search.query.patterns span new.known) at_is
+            (subst (λ (s : Span). new.at ≤ looked_upto p.search.query.patterns s new.known) within before.looked);
+      };
+      scans = subst (λ n. ScansWords p.search.query.patterns span span.start n span.start new.known t0 t1) at_is
+          (subst (λ (m : MatchesValue). ScansWords p.search.query.patterns m.span m.at new.at m.known new.known t0 t1)
+          is scans);
     }
+
+-- the whole words so far, with the next one
+pub words_next : (words : WholeWordsValue) (haystack : List ℕ) (span : Span) (done : List MatchValue) (at : ℕ)
+    (found : MatchValue) → AreWordsUpTo words haystack span done at
+    → IsFirstAlone words haystack (between at span.end) (Some found) → found.start < found.end
+    → AreWordsUpTo words haystack span (done ++ found ∷ []) found.end
+words_next words haystack span done at found so_far leftmost some = grind (arith, append_assoc)

@@ -8,7 +8,7 @@ use Rattle.literal_base.specs.declared.packed.MatchKind.{MatchKind}
 use Rattle.literal_base.specs.declared.packed.MatchKind.TheVariants.{LeftmostLongest}
 use Rattle.literal_base.specs.declared.search.Span.{Span}
 use Rattle.literal_search.specs.MatchesValue.{MatchesValue}
-use Rattle.literal_search.specs.SearchValue.{longest_of, search_by}
+use Rattle.literal_search.specs.SearchValue.{longest_of, looked_upto, search_by}
 use Rattle.literal_search.specs.WholeWords.{AreWholeWords, OccursAlone, WholeWordsValue}
 use Rattle.literal_search.specs.declared.whole_words.Parts.{Parts}
 
@@ -54,6 +54,7 @@ pub record ScansEnds (p : Parts) (start end : ℕ) (old new : Counts) : Type 0 w
   pub others : new ≡ record old { scanned = new.scanned }
   pub most : new.scanned + start * (longest_of p.search.query.patterns + 1)
       ≤ old.scanned + end * (longest_of p.search.query.patterns + 1)
+  pub least : old.scanned ≤ new.scanned
 
 -- the one of two matches whose pattern is no later in the list
 abbrev pub IsEarlier : Option MatchValue → MatchValue → MatchValue → Type 0
@@ -69,6 +70,7 @@ pub record AreStartsOf (p : Parts) (haystack : List ℕ) (at : ℕ) (starts : Ma
   pub before : starts.at ≤ at
   pub inside : at ≤ starts.span.end
   pub known : starts.known ≤ starts.span.end
+  pub looked : starts.at ≤ looked_upto p.search.query.patterns starts.span starts.known
 
 -- the whole words so far, before a place: whatever is the list of the rest goes on from them
 pub record AreWordsUpTo (words : WholeWordsValue) (haystack : List ℕ) (span : Span) (done : List MatchValue) (at : ℕ)

@@ -6,4 +6,5 @@ pub returns-in-LeftmostLongest-clause-scans : goal.returns-in-LeftmostLongest-cl
 returns-in-LeftmostLongest-clause-scans c =
     let one = c.if-is_word_before.ensures in
     ends_whole c.args.self.now c.args.span.start c.args.span.end c.args.tally.now c.is_word_before.new.tally
-    c.longest_word.new.tally c.longest_word.result one.others one.most c.longest_word.ensures.scans (grind arith)
+    c.longest_word.new.tally c.longest_word.result one.others one.most one.least c.longest_word.ensures.scans
+    (grind arith)

@@ -11,7 +11,8 @@ returns-in_err-found-clause-scans c =
     let scans = ends_on c.args.self.now start c.loop-rest.rest.end c.args.span.end c.args.tally.now c.loop-rest.tally
     c.match_in_counted.new.tally c.loop-rest.invariant.scans
     (scanned_on c.loop-rest.tally c.is_word_at.new.tally c.match_in_counted.new.tally one.others all.others)
-    (omega (arith, one.most, all.most)) (omega (arith, c.loop-rest-test.true, c.loop-rest.invariant.start)) in
+    (omega (arith, one.most, all.most)) (omega (arith, one.least, c.in_err-found.ensures.bounded.least))
+    (omega (arith, c.loop-rest-test.true, c.loop-rest.invariant.start)) in
     grind arith
 
 pub loop-rest-preserved : goal.loop-rest-preserved

@@ -1,5 +1,6 @@
 use Rattle.std.proofs.Common.{◌≡◌, ◌-◌, ◌<◌, ◌≤◌, ℕ}
 use Rattle.literal_base.specs.Occurs.{between}
+use Rattle.literal_search.specs.SearchValue.{looked_upto}
 use Rattle.literal_search.specs.WholeWords.{OccursAlone, ScansWords}
 use Rattle.literal_search.proofs.whole_words.Parts.next_word.Given as goal
 
@@ -12,8 +13,10 @@ invariant-loop-found l = record {
   known : l.starts.known ≤ l.fn.starts.span.end;
   none : (i k : ℕ) → l.fn.at ≤ k → k < l.starts.at → ¬ OccursAlone l.fn.self.search.query.patterns
       l.fn.self.search.ignore_case l.fn.self.word_bytes l.fn.haystack (between l.fn.at l.fn.starts.span.end) i k;
-  scans : ScansWords l.fn.self.search.query.patterns l.fn.starts.at l.starts.at l.fn.starts.known l.starts.known
-      l.fn.tally l.tally;
+  further : l.fn.starts.known ≤ l.starts.known;
+  looked : l.starts.at ≤ looked_upto l.fn.self.search.query.patterns l.fn.starts.span l.starts.known;
+  scans : ScansWords l.fn.self.search.query.patterns l.fn.starts.span l.fn.starts.at l.starts.at l.fn.starts.known
+      l.starts.known l.fn.tally l.tally;
 }
 
 abbrev pub decreases-loop-found : goal.decreases-loop-found
