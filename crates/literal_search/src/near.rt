@@ -1,6 +1,7 @@
 //! The leftmost match of a span. Where patterns are likely to begin at many places, one walk after another goes through
 //! short pieces at its start, which end, where that can be, before a byte that no pattern has.
-ghost use Rattle.std.specs.Prelude.{ℕ, IsNone, Some, ◌≡◌, ◌+◌, ◌-◌, ◌*◌, ◌<◌, ◌≤◌, IfOk, IfSome, MatchOption, min, true};
+ghost use Rattle.std.specs.Prelude.{◌≡◌, ◌+◌, ◌-◌, ◌*◌, ◌<◌, ◌≤◌, ℕ};
+ghost use Rattle.std.specs.Prelude.{IfOk, IfSome, IsNone, MatchOption, Some, min, true};
 ghost use Rattle.std.specs.Result.{IsOkAnd};
 ghost use Rattle.literal_base.specs.Leftmost.{IsLeftmost};
 ghost use Rattle.literal_base.specs.Occurs.{IsValidSpan, between};
@@ -204,8 +205,7 @@ impl<'t> Backward<'t> {
         Ok(Near { found: None, at })
     }
 
-    /// The leftmost match near the start of a span, by pieces, if patterns are likely to begin at many
-    /// places.
+    /// The same, if patterns are likely to begin at many places; else nothing is looked at.
     #[inline(always)]
     fn find_near(&self, haystack: &[u8], span: Span, tally: &mut Tally) -> Result<Near, Damaged>
         requires safe { IsSafe self.now }

@@ -1,4 +1,5 @@
-use Rattle.std.proofs.Common.{◌<◌, IfSome, MatchOption, is_some, ◌≡◌, ℕ, ◌+◌, ◌-◌, ◌*◌, ◌≤◌, ◌∙◌, IfOk, Err, None, Ok, Option, Result, Some, ap}
+use Rattle.std.proofs.Common.{◌≡◌, ℕ, ◌+◌, ◌-◌, ◌*◌, ◌<◌, ◌≤◌, ◌∙◌, IfOk, Err, None, Ok, Option, Result, Some, ap}
+use Rattle.std.proofs.Common.{IfSome, MatchOption, is_some}
 use Rattle.std.proofs.Common.{arith, inl, inr, refl, subst, sym}
 use Rattle.std.proofs.lemmas.Bool.{cases_lt}
 use Rattle.literal_base.specs.Counts.{Counts}
@@ -124,26 +125,27 @@ returns-then-is_some-clause-counted c =
 pub loop-block-preserved : goal.loop-block-preserved
 loop-block-preserved c =
     let so_far = c.loop-block.invariant in
+    let passed = c.pass_on-front-in-Some-four_parts_at in
     let looked = c.in_ok-looked.looked in
     let none = sym c.is_some.ensures ∙ c.if-is_some.false in
     record {
       front = subst (λ n. IsFront c.args.self.now c.args.span n c.args.tally.now.scanned
-          c.pass_on-front-in-Some-four_parts_at.new.tally.scanned c.pass_on-front-in-Some-four_parts_at.result) (sym c.owed_by-owed.ensures)
-          (c.pass_on-front-in-Some-four_parts_at.ensures.front c.args.tally.now.scanned
+          passed.new.tally.scanned passed.result) (sym c.owed_by-owed.ensures)
+          (passed.ensures.front c.args.tally.now.scanned
           (c.in_ok-looked.ensures.front c.args.tally.now.scanned so_far.front none));
       none = λ search is.
           let tables = back_tables_by search c.args.self.now in
           let haystack = c.args.haystack.now in
           let end = c.args.span.end in
-          none_on tables haystack end c.args.span.start looked.front.at c.pass_on-front-in-Some-four_parts_at.result.at
+          none_on tables haystack end c.args.span.start looked.front.at passed.result.at
           (none_on tables haystack end c.args.span.start c.loop-block.front.at looked.front.at
           (so_far.none search is)
           (no_first tables haystack end c.loop-block.front.at looked.front.at looked.first none
-          (c.in_ok-looked.ensures.first search is))) (c.pass_on-front-in-Some-four_parts_at.ensures.none search is);
-      others = c.pass_on-front-in-Some-four_parts_at.ensures.others
-          ∙ (ap (λ (t : Counts). let n : Counts = record t { scanned = c.pass_on-front-in-Some-four_parts_at.new.tally.scanned } in n)
+          (c.in_ok-looked.ensures.first search is))) (passed.ensures.none search is);
+      others = passed.ensures.others
+          ∙ (ap (λ (t : Counts). let n : Counts = record t { scanned = passed.new.tally.scanned } in n)
           c.in_ok-looked.ensures.others
-          ∙ ap (λ (t : Counts). let n : Counts = record t { scanned = c.pass_on-front-in-Some-four_parts_at.new.tally.scanned } in n)
+          ∙ ap (λ (t : Counts). let n : Counts = record t { scanned = passed.new.tally.scanned } in n)
           so_far.others);
     }
 
@@ -166,7 +168,8 @@ returns-clause-counted c =
     let most : c.loop-block.tally.scanned + (span.end - at) + 11 * span.start
     ≤ c.args.tally.now.scanned + 11 * at + 36 * first_part c.args.self.now.table.longest =
     elim (cases_lt at span.end) [
-      | inl before ↦ omega (arith, front.most, front.near before, front.after, c.in_default-four_parts_at.ensures.rest refl)
+      | inl before ↦
+          omega (arith, front.most, front.near before, front.after, c.in_default-four_parts_at.ensures.rest refl)
       | inr not ↦ omega (arith, front.most, front.after, not)
     ] in
     rest_reads c.args.self.now.table.longest span c.args.tally.now.scanned c.loop-block.tally.scanned
