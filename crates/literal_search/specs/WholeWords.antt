@@ -103,8 +103,8 @@ abbrev pub most_at_start : List (List ℕ) → ℕ
 most_at_start patterns = (longest_of patterns + 1) * (longest_of patterns + 1)
 
 -- what is scanned while an iteration gets from one place to another, and looks further. If no pattern is longer than a
--- block, it is at most three times the bytes by which it looks further, and so many for each byte by which the iteration
--- gets on; and it is at least the bytes that had not been looked up
+-- block, it is at most three times the bytes by which it looks further, and so many for each byte by which it gets on;
+-- and it is at least the bytes that had not been looked up
 pub record ScansWords (patterns : List (List ℕ)) (span : Span) (from upto known further : ℕ) (old new : Counts)
     : Type 0 where
   pub others : new ≡ record old { scanned = new.scanned }
