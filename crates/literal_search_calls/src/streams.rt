@@ -75,7 +75,7 @@ fn assert_same(rt: &impl Abort, alloc: Global, search: &Search, text: &[u8], ste
 fn pieces_make_no_difference(rt: HostRuntime) -> Result<(), Fail> {
     let search = longest_of(rt.alloc(), &[b"abcd", b"bc", b"da"])?;
     let mut text = Vec::new(rt.alloc());
-    for _ in 0..20_000 {
+    for _ in 0..7_000 {
         text.extend_from_slice(b"xabcdabxbcda")?;
     }
     for step in [1, 7, 4_096, 65_536, 1_000_000] {
