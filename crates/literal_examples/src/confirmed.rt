@@ -13,8 +13,8 @@ fn begins_line(text: &[u8], at: usize) -> bool
     at == 0 || text[at - 1] == b'\n'
 }
 
-/// The first line that begins with a pattern: the match at its start, which the match kind prefers. `(?m)^` in front of
-/// the patterns says the same as a regular expression.
+/// The match at the start of the first line that begins with a pattern; of several patterns there, the one that the
+/// match kind prefers. As a regular expression this is `(?m)^(?:...)`, with the patterns in the brackets.
 pub fn first_at_line_start(search: &Search, text: &[u8]) -> Option<Match>
     ensures { MatchOption result
         ((i at : ℕ) → Occurs search.now.query.patterns search.now.ignore_case text.now (whole_of text.now) i at

@@ -102,9 +102,13 @@ most_words_to_come m = at_most (m.span.end - m.at)
 abbrev pub most_at_start : List (List ℕ) → ℕ
 most_at_start patterns = (longest_of patterns + 1) * (longest_of patterns + 1)
 
+-- the same where each of them is searched for anew in the rest of a span
+abbrev pub most_anew : List (List ℕ) → Span → ℕ
+most_anew patterns span = most_at_start patterns + 3 * (span.end - span.start)
+
 -- what is scanned while an iteration gets from one place to another, and looks further. If no pattern is longer than a
 -- block, it is at most three times the bytes by which it looks further, and so many for each byte by which it gets on;
--- and it is at least the bytes that had not been looked up
+-- and it is at least the bytes that had not been looked up. Otherwise each start is searched for anew
 pub record ScansWords (patterns : List (List ℕ)) (span : Span) (from upto known further : ℕ) (old new : Counts)
     : Type 0 where
   pub others : new ≡ record old { scanned = new.scanned }
@@ -112,10 +116,16 @@ pub record ScansWords (patterns : List (List ℕ)) (span : Span) (from upto know
       ≤ old.scanned + 3 * further + upto * most_at_start patterns
   pub least : longest_of patterns ≤ LEAST
       → old.scanned + looked_upto patterns span further ≤ new.scanned + looked_upto patterns span known
+  pub long : LEAST < longest_of patterns
+      → new.scanned + from * most_anew patterns span ≤ old.scanned + upto * most_anew patterns span
 
--- what the search for the first whole word scans: what an iteration does from the start of the span on
+-- what the search for the first whole word scans. If no pattern is longer than a block, it is at least each byte up to
+-- the start of the word, with that one, and at most three times the span, and so many more for each byte up to there
 pub record ScansFirstWord (patterns : List (List ℕ)) (span : Span) (answer : Option MatchValue) (old new : Counts)
     : Type 0 where
-  pub known : ℕ
-  pub looks : LooksOn (longest_of patterns) span span.start known (place_further span answer)
-  pub scans : ScansWords patterns span span.start (place_further span answer) span.start known old new
+  pub others : new ≡ record old { scanned = new.scanned }
+  pub least : longest_of patterns ≤ LEAST → old.scanned + place_further span answer ≤ new.scanned + span.start
+  pub most : longest_of patterns ≤ LEAST → new.scanned + span.start * most_at_start patterns
+      ≤ old.scanned + 3 * (span.end - span.start) + place_further span answer * most_at_start patterns
+  pub long : LEAST < longest_of patterns → new.scanned + span.start * most_anew patterns span
+      ≤ old.scanned + place_further span answer * most_anew patterns span

@@ -37,16 +37,16 @@ impl From<AllocError> for GrowError {
     }
 }
 
-/// Where a pattern ends, in place of the class with which it goes on.
+/// The number that stands for the next class at the end of a pattern, which has no next class.
 const NO_CLASS: u32 = 256;
 
-/// How many numbers the longest row has.
+/// The length of the longest row.
 const ROW_LEN: usize = 257;
 
-/// For how many numbers there is room at first, at most: they take 64 MiB.
+/// The most numbers, of four bytes each, for which the rows have room at first.
 const MOST_ROOM: usize = 1 << 24;
 
-/// How long all rows may be together.
+/// The most numbers in all rows.
 const LIMIT: usize = (1 << 31) - 1;
 
 /// Patterns, whose bytes are read by their classes.
@@ -139,8 +139,8 @@ impl<'p> Texts<'p> {
         Ok(whole)
     }
 
-    /// How many numbers the rows have room for at first: as many as they need if no two patterns begin alike, but at
-    /// most `MOST_ROOM`.
+    /// The number of numbers for which the rows have room at first: enough if no two patterns have a common prefix, but
+    /// at most `MOST_ROOM`.
     fn first_room(&self) -> usize
         requires { AreTexts self.now }
     {

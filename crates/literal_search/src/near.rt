@@ -1,5 +1,6 @@
-//! The leftmost match of a span. Where patterns are likely to begin at many places, one walk after another goes through
-//! short pieces at its start, which end, where that can be, before a byte that no pattern has.
+//! The leftmost match of a span. If matches are likely to be near each other, the search first walks through short
+//! pieces at the start of the span, one after another. A walk over a piece has to begin some bytes after it, except if
+//! the next byte is in no pattern. So a piece ends before such a byte if there is one nearby.
 ghost use Rattle.std.specs.Prelude.{◌≡◌, ◌+◌, ◌-◌, ◌*◌, ◌<◌, ◌≤◌, ℕ};
 ghost use Rattle.std.specs.Prelude.{IfOk, IfSome, IsNone, MatchOption, Some, min, true};
 ghost use Rattle.std.specs.Result.{IsOkAnd};
@@ -21,19 +22,19 @@ use literal_base::count::Tally;
 use literal_base::{Match, Span};
 use literal_fingerprints::CandidateScan;
 
-/// How many bytes a piece has at least, if the span has as many.
+/// The least length of a piece, in bytes, except at the end of the span.
 const PIECE: usize = 10;
 
-/// How much longer it is than the parts of a block may be, where no such byte is found in its second half.
+/// How many bytes longer than the first part of a block a piece is if it does not end before a byte of no pattern.
 const MORE: usize = 8;
 
-/// Pieces begin before this offset in the span.
+/// The last piece begins less than this many bytes after the start of the span.
 const NEAR: usize = 64;
 
-/// A search without a scan begins by pieces, if it has at most so many states for each two patterns.
+/// The most states for every two patterns with which a search that has no scan begins by pieces.
 const FEW_STATES: usize = 9;
 
-/// The same of a search with a scan, which looks at a piece at its first candidate.
+/// The most states for every two patterns with which a search that has a scan walks over a piece at a candidate.
 const FEW_STATES_TO_SCAN: usize = 15;
 
 /// A piece of a span.
@@ -41,21 +42,21 @@ const FEW_STATES_TO_SCAN: usize = 15;
 pub struct Piece {
     /// Where it ends.
     pub end: usize,
-    /// Whatever begins in the piece and lies in the span ends before this offset, or there.
+    /// An occurrence that begins in the piece, and lies in the span, ends at this offset or before it.
     pub reach: usize,
 }
 
-/// How far a search has come that goes by pieces.
+/// The answer of a search by pieces.
 #[derive(Clone, Copy)]
 pub struct Near {
     pub found: Option<Match>,
-    /// Where nothing was found, nothing begins before this offset.
+    /// If nothing was found: no occurrence begins before this offset.
     pub at: usize,
 }
 
 impl<'t> Backward<'t> {
-    /// Whether the automaton has at most so many states for each two patterns: few if these are short and alike, as
-    /// frequent words are. What follows from it only makes a search faster or slower.
+    /// Whether the automaton has at most `most` states for every two patterns. Frequent words are short and share
+    /// suffixes, so they need few states. The answers of a search do not depend on it, only its time.
     #[inline(always)]
     fn has_few_states(&self, most: usize) -> bool
         requires safe { IsSafe self.now }
@@ -67,7 +68,7 @@ impl<'t> Backward<'t> {
             && self.table.rows.len() - CLASSES_LEN <= self.lens.len() * (width + 1) * most / 2
     }
 
-    /// The first offset of a span at which a byte stands that no pattern has.
+    /// The first offset of a span whose byte is in no pattern.
     #[inline(always)]
     fn gap_in(
         &self,
@@ -127,7 +128,8 @@ impl<'t> Backward<'t> {
             },
         }
     }
-    /// What begins first in the piece that begins at an offset.
+
+    /// The first occurrence that begins in the piece at an offset.
     fn look_near(
         &self,
         classes: &[u8; 256],
@@ -227,8 +229,8 @@ impl<'t> Backward<'t> {
         })
     }
 
-    /// What begins in a short piece from the first candidate on, by one walk, if no long one comes before it. Where
-    /// there is no scan for candidates, the search stays where it is.
+    /// Walks over one short piece from the first candidate on, before whole blocks are walked over. It does nothing if
+    /// there is no scan for candidates, if scanning has cost too much, or if there are many states.
     #[inline(always)]
     pub(crate) fn look_first(
         &self,
@@ -264,7 +266,7 @@ impl<'t> Backward<'t> {
         if scan.is_none() || front.credit >= PRICE || !self.has_few_states(FEW_STATES_TO_SCAN) {
             return Ok(Looked { first: None, front });
         }
-        let len = self.table.longest / 2 + 10;
+        let len = self.table.longest / 2 + PIECE;
         let start = front.at;
         let end = start + len.min(span.end - start);
         let part = Span { start, end };

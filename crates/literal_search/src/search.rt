@@ -218,7 +218,7 @@ impl Search {
         self.find_iter_in(haystack, Span { start: 0, end })
     }
 
-    /// The same in a span of the haystack, of which each match lies whole in it. Offsets, in the matches too, are in
+    /// The same in a span of the haystack. Each match lies whole in the span. Offsets, in the matches too, are in
     /// bytes of the whole haystack. The span has to be valid: its `start` at most its `end`, and that at most the
     /// haystack's length. No memory is asked for: what is known of one block stands in the iterator, which takes 4 KiB.
     /// If a pattern is longer than a block, of 1,024 bytes, each match is searched for alone.
@@ -258,8 +258,8 @@ impl Search {
         self.starts_in(haystack, Span { start: 0, end })
     }
 
-    /// The same in a span of the haystack, of which each match lies whole in it. The span has to be valid. No memory is
-    /// asked for, as by [`Search::find_iter_in`].
+    /// The same in a span of the haystack. Each match lies whole in the span, which has to be valid. No memory is asked
+    /// for.
     pub fn starts_in<'s, 'h>(&'s self, haystack: &'h [u8], span: Span) -> Starts<'s, 'h>
         requires { IsValidSpan haystack.now span }
         ensures { result ≡ record {
@@ -644,8 +644,9 @@ impl<'s, 'h> Model for Starts<'s, 'h> {
 }
 
 impl<'s, 'h> Starts<'s, 'h> {
-    /// Answers as `next`, and adds each byte that it looks up to a tally, as scanned: a call, and a whole iteration, as
-    /// by [`Matches::next_counted`]. If a pattern has more than 1,024 bytes, each match is searched for anew.
+    /// Answers as `next`, and adds each byte that it looks up to a tally, as scanned. If no pattern has more than 1,024
+    /// bytes, a call looks up at most three times the bytes of the span that no call before it has looked up. Else each
+    /// call searches anew, as [`Search::find_in_counted`] does.
     pub fn next_counted(&mut self, tally: &mut Tally) -> Option<Match>
         ensures gives { GivesStart self.old result self.new }
         ensures scans { ScansNext (longest_of self.old.search.query.patterns) self.old.span self.old.at self.old.known

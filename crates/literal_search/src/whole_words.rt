@@ -6,7 +6,7 @@ ghost use Rattle.literal_base.specs.Given.{CanBeTaken};
 ghost use Rattle.literal_base.specs.Occurs.{IsValidSpan, between, pattern_at, whole_of};
 ghost use Rattle.literal_base.specs.declared.packed.MatchKind.TheVariants.{LeftmostFirst, LeftmostLongest};
 ghost use Rattle.literal_search.specs.MatchesValue.{place_behind, place_further};
-ghost use Rattle.literal_search.specs.SearchValue.{BuildsSearch, NeedTooManyReversed, RefusesSearch};
+ghost use Rattle.literal_search.specs.SearchValue.{BuildsSearch, NeedFewReversed, NeedTooManyReversed, RefusesSearch};
 ghost use Rattle.literal_search.specs.WholeWords.{AreWholeWords, GivesWholeWord, IsFirstAlone};
 ghost use Rattle.literal_search.specs.WholeWords.{NothingAlone, OccursAlone, ScansFirstWord, ScansWords};
 ghost use Rattle.literal_search.specs.WholeWords.{is_ascii_word_byte, is_word_at, is_word_before, most_words_to_come};
@@ -25,8 +25,8 @@ use std::alloc::{AllocError, Global};
 use std::marker::Model;
 
 /// Searches for whole words: occurrences of patterns with no word byte right before them, and none right after them.
-/// Bytes next to a span count too. Contracts see the kind of match, the patterns, whether ASCII case is ignored, and
-/// which bytes are word bytes.
+/// The bytes of the haystack next to a span count too. Contracts see the kind of match, the patterns, whether ASCII
+/// case is ignored, and which bytes are word bytes.
 ///
 /// The leftmost whole word is the one that begins first; of those that begin at one offset it is the one that the match
 /// kind prefers. A pattern that is no whole word hides no other pattern. So with [`MatchKind::LeftmostFirst`] a pattern
@@ -78,6 +78,7 @@ impl WholeWords {
         ensures ok { IfOk result
             (λ words. BuildsSearch I.into_iter_gives I.IntoIter.next_gives patterns kind ignore_case words.search) }
         ensures word_bytes { IfOk result (λ words. words.word_bytes ≡ word_bytes) }
+        ensures few { IfOk result (λ words. NeedFewReversed ignore_case words.search.query.patterns) }
         ensures error { IfErr result (RefusesSearch I.into_iter_gives I.IntoIter.next_gives patterns
             (NeedTooManyReversed ignore_case)) }
     {
@@ -124,8 +125,9 @@ impl WholeWords {
     }
 
     /// Answers as [`WholeWords::find_in`], and adds each byte that it looks up to a tally, as scanned. If no pattern
-    /// has more than 1,024 bytes, these are at most three times the bytes of the span, and for each byte up to the
-    /// start of the match the square of one more than the length of the longest pattern.
+    /// has more than 1,024 bytes, these are at most three times the bytes of the span, and in addition, for each byte
+    /// up to the start of the match, the square of one more than the length of the longest pattern. With a longer
+    /// pattern, each of these bytes may cost three times the span more.
     pub fn find_in_counted(&self, haystack: &[u8], span: Span, tally: &mut Tally) -> Option<Match>
         requires { IsValidSpan haystack.now span }
         ensures leftmost { IsFirstAlone self.now haystack.now span result }
@@ -161,8 +163,8 @@ impl WholeWords {
         self.find_iter_in(haystack, Span { start: 0, end })
     }
 
-    /// The same in a span of the haystack, of which each match lies whole in it. The span has to be valid. No memory is
-    /// asked for.
+    /// The same in a span of the haystack. Each match lies whole in the span, which has to be valid. No memory is asked
+    /// for.
     pub fn find_iter_in<'s, 'h>(
         &'s self,
         haystack: &'h [u8],
@@ -271,10 +273,7 @@ impl Parts {
             starts.old.known starts.new.known tally.old tally.new }
     {
         while let Some(found) = starts.next_counted(tally) {
-            if found.start() < at {
-                continue;
-            }
-            if let Some(word) = self.best_word(haystack, found.span(), tally) {
+            if let Some(word) = self.best_word(haystack, found.span(), at, tally) {
                 return Some(word);
             }
         }
@@ -282,13 +281,24 @@ impl Parts {
     }
 
     /// Of the whole words that begin at the start of a span, and lie whole in it, the one that the match kind prefers.
-    fn best_word(&self, haystack: &[u8], span: Span, tally: &mut Tally) -> Option<Match>
+    /// If the span begins before an offset, there is none.
+    fn best_word(
+        &self,
+        haystack: &[u8],
+        span: Span,
+        from: usize,
+        tally: &mut Tally,
+    ) -> Option<Match>
         requires parts { AreWordParts self.now }
         requires valid { IsValidSpan haystack.now span }
-        ensures best { MatchOption result ((i : ℕ) → ¬ IsWordAt self.now haystack.now span i)
+        ensures best { MatchOption result (from ≤ span.start → (i : ℕ) → ¬ IsWordAt self.now haystack.now span i)
             (IsBestWord self.now.kind self.now haystack.now span) }
+        ensures after { IfSome result (λ _. from ≤ span.start) }
         ensures scans { ScansEnds self.now span.start (span.end + 1) tally.old tally.new }
     {
+        if span.start < from {
+            return None;
+        }
         if self.is_word_before(haystack, span.start, tally) {
             return None;
         }
@@ -412,7 +422,8 @@ impl<'s, 'h> Model for WholeWordMatches<'s, 'h> {
 
 impl<'s, 'h> WholeWordMatches<'s, 'h> {
     /// Answers as `next`, and adds each byte that it looks up to a tally, as scanned. If no pattern has more than 1,024
-    /// bytes, a whole iteration looks up at most what [`WholeWords::find_in_counted`] does where it finds nothing.
+    /// bytes, these are at most three times the bytes of the span that no call before it has looked up, and in addition
+    /// the square of one more than the length of the longest pattern, for each byte by which the call gets on.
     pub fn next_counted(&mut self, tally: &mut Tally) -> Option<Match>
         ensures gives { GivesWholeWord self.old result self.new }
         ensures scans { ScansWords self.old.words.search.query.patterns self.old.span self.old.from self.new.from

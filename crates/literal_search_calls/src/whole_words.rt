@@ -14,7 +14,7 @@ fn example_of_whole_words(rt: HostRuntime) -> Result<(), Fail> {
     Ok(())
 }
 
-/// A search for a word beside which no hyphen may be, but other letters.
+/// A search for a word next to which there may be any byte but a hyphen.
 fn without_hyphens(alloc: Global) -> Result<WholeWords, BuildError> {
     let mut hyphen = ByteSet::empty();
     hyphen.add(b'-');

@@ -44,6 +44,7 @@ use Rattle.std.proofs.lemmas.List.Kept.{AllPairs-filter}
 use Rattle.literal_base.specs.declared.search.Span.{Span}
 use Rattle.literal_search.specs.Overlapping.{AreAllThat, ComesBefore, IsOccurrence, IsOverlapping}
 use Rattle.literal_search.specs.SearchValue.{longest_of}
+use Rattle.literal_search.proofs.lemmas.Longest.{longest_is}
 
 -- whichever iterator the given value becomes, that gives references to these byte strings and ends
 pub record GivesBytes {U T : Type 0} (becomes : U → T → Type 0) (steps : T → Option (Bor (List ℕ)) → T → Type 0)
@@ -303,11 +304,8 @@ replaced_by_calls {step = step} {searched = searched} {haystack = haystack} writ
     }
 
 -- no pattern is longer than the longest
-pub within_longest : (patterns : List (List ℕ)) (i : ℕ) → i < length patterns
-    → length (pattern_at patterns i) ≤ longest_of patterns
-within_longest [] i below = absurd (omega arith)
-within_longest (bytes ∷ more) zero below = omega arith
-within_longest (bytes ∷ more) (suc i) below = omega (arith, within_longest more i (omega arith))
+pub within_longest : (patterns : List (List ℕ)) (i : ℕ) → length (pattern_at patterns i) ≤ longest_of patterns
+within_longest = longest_is
 
 among_passing : (test : MatchValue → Bool) (all : List MatchValue) (found : MatchValue) → IsAmong all found
     → test found ≡ true → IsAmong (filter test all) found

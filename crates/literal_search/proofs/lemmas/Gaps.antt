@@ -1,12 +1,11 @@
 -- No pattern goes over a byte that has the last class.
-use Rattle.std.proofs.Common.{◌≡◌, ℕ, ◌+◌, ◌-◌, ◌<◌, ◌≤◌, ◌∙◌, List, ap, arith, get_or, inl, inr, length}
+use Rattle.std.proofs.Common.{◌≡◌, ℕ, ◌+◌, ◌-◌, ◌<◌, ◌≤◌, Bool, false, true, List, arith, get_or, inl, inr, length}
 use Rattle.std.proofs.Common.{subst, sym}
-use Rattle.std.proofs.lemmas.Bool.{cases_lt}
-use Rattle.std.proofs.lemmas.List.{get_or-drop, get_or-map, get_or-take, length-drop, length-take}
-use Rattle.std.specs.List.{slice_range}
+use Rattle.std.proofs.lemmas.Bool.{cases_lt, eqb-true}
+use Rattle.std.specs.Char.{to_ascii_lowercase}
 use Rattle.literal_base.specs.Leftmost.{IsLeftmostMatch}
 use Rattle.literal_base.specs.MatchValue.{MatchValue}
-use Rattle.literal_base.specs.Occurs.{Occurs, between, pattern_at}
+use Rattle.literal_base.specs.Occurs.{IsValidSpan, Occurs, between, pattern_at, same_byte}
 use Rattle.literal_base.specs.declared.search.Span.{Span}
 use Rattle.literal_search.specs.Inside.Backward.{AreBackFor, NoneFrom, back_tables_by}
 use Rattle.literal_search.specs.Inside.Classes.{folded}
@@ -15,29 +14,19 @@ use Rattle.literal_search.specs.SearchValue.{SearchValue}
 use Rattle.literal_search.specs.declared.backward.Backward.{Backward}
 use Rattle.literal_search.specs.declared.near.Piece.{Piece}
 use Rattle.literal_search.specs.Prepared.{AreBackTables, BackTables}
-use Rattle.literal_search.proofs.lemmas.Found.{folded_is}
+use Rattle.literal_base.proofs.lemmas.Callers.{bytes_at}
 
 module _ (p : BackTables) (are : AreBackTables p) (haystack : List ℕ) (bytes : (i : ℕ) → get_or haystack i 0 < 256)
-    (few : p.width < 256) (gap end : ℕ) (inside : gap < length haystack) (is : IsGap p.classes p.width haystack gap)
+    (few : p.width < 256) (gap end : ℕ) (inside : end ≤ length haystack) (is : IsGap p.classes p.width haystack gap)
   where
     abbrev Begins : ℕ → ℕ → ℕ → ℕ → Type 0
     Begins from to i at = Occurs p.search.query.patterns p.search.ignore_case haystack (between from to) i at
 
-    -- a byte of a pattern that occurs is one with that of the haystack, once both are folded
-    same_byte : (start i at k : ℕ) → Begins start end i at
-        → at + k ≡ gap → k < length (pattern_at p.search.query.patterns i)
-        → folded p.search.ignore_case (get_or haystack gap 0)
-        ≡ folded p.search.ignore_case (get_or (pattern_at p.search.query.patterns i) k 0)
-    same_byte start i at k o there below =
-        let pattern = pattern_at p.search.query.patterns i in
-        let part = slice_range haystack at (at + length pattern) in
-        let fold = folded p.search.ignore_case in
-        let same = sym (folded_is p.search.ignore_case part) ∙ (o.same ∙ folded_is p.search.ignore_case pattern) in
-        let size : k < length part = grind (arith, length-drop, length-take) in
-        let read : get_or part k 0 ≡ get_or haystack gap 0 = grind (arith, get_or-drop, get_or-take) in
-        ap fold (sym read)
-        ∙ (sym (get_or-map fold part k 0 0 size)
-        ∙ (ap (λ (l : List ℕ). get_or l k 0) same ∙ get_or-map fold pattern k 0 0 below))
+    -- a byte of a pattern that occurs is the byte of the haystack, after folding
+    same_folded : (ignore_case : Bool) (one other : ℕ) → same_byte ignore_case one other ≡ true
+        → folded ignore_case one ≡ folded ignore_case other
+    same_folded false one other same = eqb-true one other same
+    same_folded true one other same = eqb-true (to_ascii_lowercase one) (to_ascii_lowercase other) same
 
     -- what begins before it lies before it
     lies_before : (start i at : ℕ) → Begins start end i at
@@ -45,10 +34,16 @@ module _ (p : BackTables) (are : AreBackTables p) (haystack : List ℕ) (bytes :
     lies_before start i at o before = elim (cases_lt gap (at + length (pattern_at p.search.query.patterns i))) [
       | inl over ↦
           let k = gap - at in
-          let inside : k < length (pattern_at p.search.query.patterns i) = omega (arith, over, before) in
-          let same = same_byte start i at k o (omega (arith, before)) inside in
-          let class = (are.tells i k (get_or haystack gap 0) o.is_pattern inside (bytes gap)).1 same in
-          absurd (omega (arith, class, is, are.last few i k o.is_pattern inside))
+          let within : k < length (pattern_at p.search.query.patterns i) = omega (arith, over, before) in
+          let valid : IsValidSpan haystack (between start end) =
+          record { ordered = omega (arith, o.after_start, o.before_end); in_haystack = inside } in
+          let byte = get_or (pattern_at p.search.query.patterns i) k 0 in
+          let place : at + k ≡ gap = omega (arith, before) in
+          let same = subst (λ n. folded p.search.ignore_case (get_or haystack n 0) ≡ folded p.search.ignore_case byte)
+          place (same_folded p.search.ignore_case (get_or haystack (at + k) 0) byte
+          (bytes_at p.search.query.patterns p.search.ignore_case haystack (between start end) valid i at o k within)) in
+          let class = (are.tells i k (get_or haystack gap 0) o.is_pattern within (bytes gap)).1 same in
+          absurd (omega (arith, class, is, are.last few i k o.is_pattern within))
       | inr not ↦ not
     ]
 
@@ -93,7 +88,7 @@ module _ (b : Backward) (search : SearchValue) (is : AreBackFor search b) (hayst
       | inr gap ↦
           subst (λ n. NoneFrom (back_tables_by search b) haystack span.end at n) (sym gap.0)
           (none_to_gap (back_tables_by search b) is.tables haystack bytes few piece.reach span.end
-          (omega (arith, gap.1, valid)) gap.2 at
+          valid gap.2 at
           (subst (λ n. NoneFrom (back_tables_by search b) haystack piece.reach at n) gap.0 none))
     ]
 
@@ -104,5 +99,5 @@ module _ (b : Backward) (search : SearchValue) (is : AreBackFor search b) (hayst
       | inl all ↦
           subst (λ n. IsLeftmostMatch search.query search.ignore_case haystack (between at n) found) all leftmost
       | inr gap ↦ leftmost_to_gap (back_tables_by search b) is.tables haystack bytes few piece.reach span.end
-          (omega (arith, gap.1, valid)) gap.2 at found (omega (arith, gap.1)) (omega (arith, gap.0, before)) leftmost
+          valid gap.2 at found (omega (arith, gap.1)) (omega (arith, gap.0, before)) leftmost
     ]

@@ -5,7 +5,7 @@ use Rattle.std.proofs.Math.Nat.{mul-le-mul_right}
 use Rattle.std.proofs.lemmas.Bool.{cases_lt}
 use Rattle.std.proofs.lemmas.List.Elements.{All-get_or}
 use Rattle.literal_base.specs.Counts.{Counts}
-use Rattle.literal_base.specs.Leftmost.{IsBetter, IsLeftmost, IsLeftmostMatch}
+use Rattle.literal_base.specs.Leftmost.{IsLeftmost, IsLeftmostMatch}
 use Rattle.literal_base.specs.MatchValue.{MatchValue}
 use Rattle.literal_base.specs.Occurs.{between, pattern_at}
 use Rattle.literal_base.specs.declared.search.Span.{Span}
@@ -14,8 +14,9 @@ use Rattle.literal_search.specs.Inside.WholeWords.{ScansEnds, whole_words_value}
 use Rattle.literal_search.specs.MatchesValue.{GivesStart, MatchesValue, place_further}
 use Rattle.literal_search.specs.SearchValue.{ScansNext, SearchValue, longest_of, looked_upto}
 use Rattle.literal_search.specs.WholeWords.{IsFirstAlone, IsLeftmostAlone, OccursAlone, ScansFirstWord, ScansWords}
-use Rattle.literal_search.specs.WholeWords.{WholeWordsValue, most_at_start}
+use Rattle.literal_search.specs.WholeWords.{WholeWordsValue, most_anew, most_at_start}
 use Rattle.literal_search.specs.declared.whole_words.Parts.{Parts}
+use Rattle.literal_base.proofs.lemmas.Callers.{none_longer}
 use Rattle.literal_search.proofs.lemmas.Iterations.{scanned_on}
 use Rattle.literal_search.proofs.lemmas.Longest.{longest_is}
 
@@ -99,13 +100,8 @@ module _ (p : Parts) (parts : AreWordParts p) (haystack : List ℕ) (at from end
   -- what occurs at the start of a longest match lies whole in it
   lies_in : (i : ℕ) → IsWordFrom i found.start → IsWordAt p haystack (between found.start found.end) i
   lies_in i word =
-      elim (cases_lt (size found.pattern) (size i)) [
-        | inl longer ↦
-            absurd (leftmost.best i
-            (subst (λ k. IsBetter k p.search.query.patterns i found.pattern) (sym parts.longest) (inl longer))
-            (word_in word leftmost.occurs.after_start word.occurs.before_end).occurs)
-        | inr not_longer ↦ word_in word (omega arith) (omega (arith, leftmost.whole, not_longer))
-      ]
+      word_in word (omega arith) (none_longer p.search.query p.search.ignore_case haystack (between from end) found
+      parts.longest leftmost i (word_in word leftmost.occurs.after_start word.occurs.before_end).occurs)
 
   -- no whole word begins before a place, nor at the next start
   pub none_further : ((i k : ℕ) → at ≤ k → k < from → ¬ IsWordFrom i k)
@@ -153,26 +149,81 @@ pub words_on : (patterns : List (List ℕ)) (span : Span) (first old known befor
     → t3 ≡ record t2 { scanned = t3.scanned }
     → t3.scanned + found.start * (longest_of patterns + 1)
     ≤ t2.scanned + (found.end + 1) * (longest_of patterns + 1)
-    → t2.scanned ≤ t3.scanned → found.end ≤ found.start + longest_of patterns → old ≤ found.start
+    → t2.scanned ≤ t3.scanned → found.end ≤ found.start + longest_of patterns → old ≤ found.start → span.start ≤ old
     → ScansWords patterns span first (found.start + 1) known further t0 t3
-words_on patterns span first old known before further found t0 t1 t2 t3 so_far next later same most more short on =
+words_on patterns span first old known before further found t0 t1 t2 t3 so_far next later same most more short on after
+    =
+    let w = longest_of patterns + 1 in
+    let ends : found.end + 1 ≤ found.start + w = omega (arith, short) in
+    let starts : old + 1 ≤ found.start + 1 = omega (arith, on) in
+    let here : t3.scanned ≤ t2.scanned + most_at_start patterns = omega (arith, most, mul-le-mul_right w ends) in
     record {
       others = scanned_on t0 t2 t3 (scanned_on t0 t1 t2 so_far.others next.others) same;
-      most = λ small.
-          let w = longest_of patterns + 1 in
-          let ends : found.end + 1 ≤ found.start + w = omega (arith, short) in
-          let starts : old + 1 ≤ found.start + 1 = omega (arith, on) in
-          omega (
-            arith,
-            so_far.most small,
-            next.marked small,
-            later,
-            most,
-            mul-le-mul_right w ends,
-            mul-le-mul_right (most_at_start patterns) starts,
-          );
+      most = λ small. omega (
+        arith,
+        so_far.most small,
+        next.marked small,
+        later,
+        here,
+        mul-le-mul_right (most_at_start patterns) starts,
+      );
       least = λ small. omega (arith, so_far.least small, next.least small, more);
+      long = λ big. omega (
+        arith,
+        so_far.long big,
+        (next.found big).0,
+        here,
+        after,
+        mul-le-mul_right (most_anew patterns span) starts,
+      );
     }
+
+-- what is scanned in the rest of a span, where no pattern begins
+words_end : (patterns : List (List ℕ)) (span : Span) (first old known before further : ℕ) (t0 t1 t2 : Counts)
+    → ScansWords patterns span first old known before t0 t1
+    → ScansNext (longest_of patterns) span old before further None t1 t2 → before ≤ further → span.start ≤ old
+    → old ≤ span.end → ScansWords patterns span first span.end known further t0 t2
+words_end patterns span first old known before further t0 t1 t2 so_far next later after inside =
+    record {
+      others = scanned_on t0 t1 t2 so_far.others next.others;
+      most = λ small. omega (
+        arith,
+        so_far.most small,
+        next.marked small,
+        later,
+        mul-le-mul_right (most_at_start patterns) inside,
+      );
+      least = λ small. omega (arith, so_far.least small, next.least small);
+      long = λ big. elim (cases_lt old span.end) [
+        | inl more ↦ omega (
+          arith,
+          so_far.long big,
+          (next.found big).0,
+          after,
+          mul-le-mul_right (most_anew patterns span) more,
+        )
+        | inr ended ↦
+            omega (arith, so_far.long big, (next.found big).0, mul-le-mul_right (most_anew patterns span) inside)
+      ];
+    }
+
+-- the same by the iteration over the starts
+pub starts_end : (p : Parts) (haystack : List ℕ) (at : ℕ) (first old new : MatchesValue)
+    → AreStartsOf p haystack at first → old ≡ record first { at = old.at; known = old.known }
+    → GivesStart old None new → (t0 t1 t2 : Counts) → first.at ≤ old.at → old.at ≤ first.span.end
+    → ScansWords p.search.query.patterns first.span first.at old.at first.known old.known t0 t1
+    → ScansNext (longest_of old.search.query.patterns) old.span old.at old.known new.known None t1 t2
+    → ScansWords p.search.query.patterns first.span first.at new.at first.known new.known t0 t2
+starts_end p haystack at first old new starts same gives t0 t1 t2 after inside so_far next =
+    let patterns = p.search.query.patterns in
+    let at_is : new.at ≡ first.span.end = ap (λ (m : MatchesValue). m.at) gives.goes_on
+    ∙ ap (λ (m : MatchesValue). m.span.end) same in
+    subst (λ n. ScansWords patterns first.span first.at n first.known new.known t0 t2) (sym at_is)
+    (words_end patterns first.span first.at old.at first.known old.known new.known t0 t1 t2 so_far
+    (subst (λ (s : SearchValue). ScansNext (longest_of s.query.patterns) first.span old.at old.known new.known None t1
+    t2) starts.by_search
+    (subst (λ (m : MatchesValue). ScansNext (longest_of m.search.query.patterns) m.span old.at old.known new.known None
+    t1 t2) same next)) gives.looks.further (omega (arith, starts.after, after)) inside)
 
 module _ (p : Parts) (haystack : List ℕ) (at : ℕ) (first old new : MatchesValue) (found : MatchValue)
     (starts : AreStartsOf p haystack at first) (same : old ≡ record first { at = old.at; known = old.known })
@@ -184,12 +235,12 @@ module _ (p : Parts) (haystack : List ℕ) (at : ℕ) (first old new : MatchesVa
   start_on = grind arith
 
   -- what is scanned until then
-  pub starts_scan : (t0 t1 t2 t3 : Counts)
+  pub starts_scan : (t0 t1 t2 t3 : Counts) → first.at ≤ old.at
       → ScansWords p.search.query.patterns first.span first.at old.at first.known old.known t0 t1
       → ScansNext (longest_of old.search.query.patterns) old.span old.at old.known new.known (Some found) t1 t2
       → (span : Span) → span ≡ between found.start found.end → ScansEnds p span.start (span.end + 1) t2 t3
       → ScansWords p.search.query.patterns first.span first.at new.at first.known new.known t0 t3
-  starts_scan t0 t1 t2 t3 so_far next span is scans =
+  starts_scan t0 t1 t2 t3 on so_far next span is scans =
       let patterns = p.search.query.patterns in
       let leftmost = start_found p haystack at first old new (Some found) starts same gives in
       subst (λ n. ScansWords patterns first.span first.at n first.known new.known t0 t3)
@@ -201,7 +252,8 @@ module _ (p : Parts) (haystack : List ℕ) (at : ℕ) (first old new : MatchesVa
       (Some found) t1 t2) same next)) gives.looks.further scans.others
       (subst (λ (s : Span). t3.scanned + s.start * (longest_of patterns + 1)
       ≤ t2.scanned + (s.end + 1) * (longest_of patterns + 1)) is scans.most) scans.least
-      (omega (arith, leftmost.whole, longest_is patterns found.pattern)) leftmost.occurs.after_start)
+      (omega (arith, leftmost.whole, longest_is patterns found.pattern)) leftmost.occurs.after_start
+      (omega (arith, starts.after, on)))
 
 -- what is scanned from the start of a span on until a whole word is found, or none
 pub scan_whole : (p : Parts) (haystack : List ℕ) (span : Span) (first new : MatchesValue) (place : ℕ)
@@ -219,17 +271,17 @@ scan_whole p haystack span first new place answer t0 t1 is same at further befor
     let at_is : new.at ≡ place_further span answer =
     subst (λ (m : MatchesValue). new.at ≡ place_further m.span answer) is at in
     let within : new.span ≡ span = ap (λ (m : MatchesValue). m.span) same ∙ ap (λ (m : MatchesValue). m.span) is in
+    let patterns = p.search.query.patterns in
+    let whole : ScansWords patterns span span.start (place_further span answer) span.start new.known t0 t1 =
+    subst (λ n. ScansWords patterns span span.start n span.start new.known t0 t1) at_is
+    (subst (λ (m : MatchesValue). ScansWords patterns m.span m.at new.at m.known new.known t0 t1) is scans) in
+    let starts = subst (λ (s : Span). (s.start ≤ s.end) × (new.known ≤ s.end)
+    × (new.at ≤ looked_upto patterns s new.known)) within (before.valid.ordered, before.known, before.looked) in
     record {
-      known = new.known;
-      looks = record {
-        further = subst (λ (m : MatchesValue). m.known ≤ new.known) is further;
-        inside = subst (λ (s : Span). new.known ≤ s.end) within before.known;
-        looked = subst (λ n. n ≤ looked_upto p.search.query.patterns span new.known) at_is
-            (subst (λ (s : Span). new.at ≤ looked_upto p.search.query.patterns s new.known) within before.looked);
-      };
-      scans = subst (λ n. ScansWords p.search.query.patterns span span.start n span.start new.known t0 t1) at_is
-          (subst (λ (m : MatchesValue). ScansWords p.search.query.patterns m.span m.at new.at m.known new.known t0 t1)
-          is scans);
+      others = whole.others;
+      least = λ small. omega (arith, whole.least small, starts.2, at_is);
+      most = λ small. omega (arith, whole.most small, starts.0, starts.1);
+      long = whole.long;
     }
 
 -- the whole words so far, with the next one

@@ -42,7 +42,7 @@ pub record IsBestWord (kind : MatchKind) (p : Parts) (haystack : List ℕ) (span
   pub word : IsWord p haystack span found
   pub best : (i : ℕ) → IsBetter kind p.search.query.patterns i found.pattern → ¬ IsWordAt p haystack span i
 
--- of the whole words at the start of a span, those that end behind a place are no earlier in the list than the answer
+-- no whole word at the start of a span that ends after an offset is earlier in the list than the answer
 abbrev pub IsFirstUpTo : Parts → List ℕ → Span → ℕ → Option MatchValue → Type 0
 IsFirstUpTo p haystack span end answer = MatchOption answer
     ((i : ℕ) → IsWordAt p haystack span i → span.start + length (pattern_at p.search.query.patterns i) ≤ end)
