@@ -24,7 +24,7 @@ use std::simd::prelude::*;
 const MOST_PATTERNS: usize = 64;
 
 /// The first bytes of a span are looked up 16 at a time. To begin with 32 at a time takes longer than it saves there.
-const NEAR: usize = 512;
+const NEAR: usize = 128;
 
 /// How many bytes fingerprints take.
 pub const BYTES: usize = 8 * HALVES;
@@ -169,7 +169,7 @@ impl Fingerprints {
 
     /// A place of the span, or its end, before which no pattern begins that lies whole in the span. The span has to be
     /// valid. The scan stops at the first place at which a pattern may begin by its fingerprint. Each byte is read
-    /// once: 16 at a time, or, for few patterns in a long span, 32 at a time. The last bytes, fewer than 16, are read
+    /// once: 16 at a time, and in a long span 32 at a time after the first. The last bytes, fewer than 16, are read
     /// together; with 14 or 15 of them the scan stops up to two places before the end of the span.
     #[inline(always)]
     pub fn next(&self, haystack: &[u8], span: Span, tally: &mut Tally) -> usize
@@ -194,27 +194,17 @@ impl Fingerprints {
         if passed.stop < passed.at {
             return passed.stop - (LOOKED_AT - 1);
         }
-        if !is_short && self.has_few_bits() {
-            // (copies of what is handed on: a reference to it would keep it out of registers)
-            let tables = Fingerprints {
-                first: self.first,
-                second: self.second,
-                third: self.third,
-                fourth: self.fourth,
-            };
-            let before = LookedUp {
-                first: passed.before.first,
-                second: passed.before.second,
-                third: passed.before.third,
-                fourth: passed.before.fourth,
-            };
-            return tables.next_far(before, haystack, passed.at, span, tally);
+        if is_short {
+            return self.rest(passed.before, haystack, passed.at, span, tally);
         }
-        let last = self.pass(passed.before, haystack, passed.at, span.end, span, tally);
-        if last.stop < last.at {
-            return last.stop - (LOOKED_AT - 1);
-        }
-        self.rest(last.before, haystack, last.at, span, tally)
+        // (a copy of what is handed on: a reference to it would keep it out of registers)
+        let tables = Fingerprints {
+            first: self.first,
+            second: self.second,
+            third: self.third,
+            fourth: self.fourth,
+        };
+        tables.next_far(passed.bytes, haystack, passed.at, span, tally)
     }
 
     /// Looks up bytes 16 at a time from a place on, as long as there are 16 before another one, or until a pattern may

@@ -31,9 +31,9 @@ pub(crate) const MARKED: usize = LEAST / 4;
 /// The length from which parts begin to double, where the block before is far. At the end of a span they are shorter.
 const FIRST_MARKED: usize = 16;
 
-/// In a list, one walk looks at a candidate alone, if a scan passed over at least this many bytes more before it than
-/// the longest pattern has.
-const FAR: usize = 24;
+/// In a list, one walk looks at a candidate alone if a scan passed over at least this many bytes and half the length of
+/// the longest pattern before it, and not fewer bytes than that length.
+const FAR: usize = 18;
 
 /// How long each of the four parts of a marked block is at least.
 const LEAST_MARKED: usize = 6;
@@ -214,6 +214,7 @@ impl<'t> Backward<'t> {
     /// The same where it isn't known. A scan for candidates passes over bytes. Where it stops, the place alone is
     /// marked, if it passed over enough; else a block. It is called, and not put in its place, so that the next match
     /// in a marked block costs little.
+    #[tactic(auto, using(crate::proofs::lemmas::Leftmost::ahead_few))]
     #[inline(never)]
     fn mark_ahead(
         &self,
@@ -244,7 +245,8 @@ impl<'t> Backward<'t> {
         if at == span.end {
             return Ok(at);
         }
-        *marks = if at - from >= self.table.longest.saturating_add(FAR) {
+        let longest = self.table.longest;
+        *marks = if at - from >= longest.max(longest / 2 + FAR) {
             self.mark_place(haystack, span, at, numbers, tally)?
         } else {
             self.mark_block(haystack, span, at, part, numbers, tally)?

@@ -1,14 +1,12 @@
 -- Where a pattern that passes begins, four bytes share a bucket.
-use Rattle.std.proofs.Common.{◌≡◌, ℕ, ◌+◌, ◌-◌, ◌<◌, ◌≤◌, ◌∙◌, Bool, true, false, List, length, get_or, drop, take}
-use Rattle.std.proofs.Common.{sym, subst, ap, arith, inl, inr, [], ◌∷◌, map}
-use Rattle.std.proofs.lemmas.Bool.{cases_lt, eq-eqb}
-use Rattle.std.proofs.lemmas.List.{get_or-drop, get_or-map, get_or-take, get_or_default, length-drop, length-map}
-use Rattle.std.proofs.lemmas.List.{length-take}
-use Rattle.std.specs.Char.{to_ascii_lowercase}
+use Rattle.std.proofs.Common.{◌≡◌, ℕ, ◌+◌, ◌<◌, ◌≤◌, ◌∙◌, true, List, length, get_or, take}
+use Rattle.std.proofs.Common.{sym, subst, arith, inl, inr, [], ◌∷◌, map}
+use Rattle.std.proofs.lemmas.Bool.{cases_lt}
+use Rattle.std.proofs.lemmas.List.{get_or-map, get_or-take, get_or_default, length-map}
 use Rattle.std.specs.Global.{Vec}
-use Rattle.std.specs.List.{All, slice_range}
+use Rattle.std.specs.List.{All}
 use Rattle.literal_base.specs.declared.search.Span.{Span}
-use Rattle.literal_base.specs.Occurs.{IsValidSpan, Occurs, pattern_at, same_byte}
+use Rattle.literal_base.specs.Occurs.{IsValidSpan, pattern_at, same_byte}
 use Rattle.literal_base.proofs.lemmas.Callers.{bytes_at}
 use Rattle.literal_fingerprints.specs.FingerprintsValue.{FingerprintsValue, NoneBegins, shared_buckets}
 

@@ -8,7 +8,6 @@ ghost use Rattle.literal_fingerprints.specs.Inside.Scan.{shared_highs, shared_lo
 
 use super::{Fingerprints, Passed};
 use crate::buckets::LOOKED_AT;
-use crate::lanes::LANES;
 use crate::looked_up::LookedUp;
 use crate::wide::{
     WIDE, back_half, both_wide, by_high_wide, by_low_wide, load_wide, one_back_wide,
@@ -22,20 +21,20 @@ use std::simd::prelude::*;
 const FEW_BITS: u32 = 52;
 
 impl Fingerprints {
-    /// Continues a scan from a place, before which all bytes of the span are looked up.
+    /// Continues a scan from an offset before which all bytes of the span are looked up: `bytes` are the last of them.
     #[inline(never)]
     pub(super) fn next_far(
         self,
-        before: LookedUp,
+        bytes: u8x16,
         haystack: &[u8],
         from: usize,
         span: Span,
         tally: &mut Tally,
     ) -> usize
         requires valid { IsValidSpan haystack.now span }
-        requires after { span.start ≤ from }
-        requires inside { from + 16 ≤ span.end }
-        requires looked { IsLookedUp before self (take span.end haystack.now) span.start from }
+        requires after { span.start + 16 ≤ from }
+        requires inside { from ≤ span.end }
+        requires bytes { HasLanes bytes (λ k. slice_index (take span.end haystack.now) (from - 16 + k)) }
         requires none { NoneShared self (take span.end haystack.now) span.start from }
         ensures inside { result ≤ span.end }
         ensures far { from ≤ result + 3 }
@@ -47,11 +46,7 @@ impl Fingerprints {
         ensures read { tally.old.scanned + result ≤ tally.new.scanned + from }
         ensures counted { tally.new.scanned + from ≤ tally.old.scanned + result + 35 }
     {
-        let near = self.pass(before, haystack, from, from + LANES, span, tally);
-        if near.stop < near.at {
-            return near.stop - (LOOKED_AT - 1);
-        }
-        let far = self.pass_by_lows(near.bytes, haystack, near.at, span, tally);
+        let far = self.pass_wide(bytes, haystack, from, span, tally);
         if far.stop < far.at {
             return far.stop - (LOOKED_AT - 1);
         }
@@ -70,11 +65,40 @@ impl Fingerprints {
         front.wrapping_add(back) <= FEW_BITS
     }
 
-    /// Looks up bytes 32 at a time, as long as there are so many, or until a pattern may begin by its fingerprint. They
-    /// are looked up by their high halves only if four of them share a bucket by their low ones.
+    /// Looks up bytes 32 at a time, as long as there are so many, or until a pattern may begin by its fingerprint. If the
+    /// low halves of the tables let few places pass, the high halves are looked up only where four bytes share a bucket
+    /// by the low ones. Each way has a loop of its own.
     #[inline(always)]
-    fn pass_by_lows(
+    fn pass_wide(
         &self,
+        bytes: u8x16,
+        haystack: &[u8],
+        from: usize,
+        span: Span,
+        tally: &mut Tally,
+    ) -> Passed
+        requires valid { IsValidSpan haystack.now span }
+        requires after { span.start + 16 ≤ from }
+        requires inside { from ≤ span.end }
+        requires bytes { HasLanes bytes (λ k. slice_index (take span.end haystack.now) (from - 16 + k)) }
+        requires none { NoneShared self.now (take span.end haystack.now) span.start from }
+        ensures passed { HasPassed result self.now (take span.end haystack.now) span.start }
+        ensures least { from ≤ result.stop }
+        ensures most { result.at ≤ span.end }
+        ensures near { result.at ≤ result.stop + 32 }
+        ensures ticks { tally.new ≡ record tally.old { scanned = tally.old.scanned + (result.at - from) } }
+    {
+        if self.has_few_bits() {
+            return self.pass_by(true, bytes, haystack, from, span, tally);
+        }
+        self.pass_by(false, bytes, haystack, from, span, tally)
+    }
+
+    /// The same by the low halves first, or by both at once.
+    #[inline(always)]
+    fn pass_by(
+        &self,
+        lows_first: bool,
         bytes: u8x16,
         haystack: &[u8],
         from: usize,
@@ -97,7 +121,7 @@ impl Fingerprints {
         let last = span.end.saturating_sub(WIDE);
         while at <= last {
             let here = load_wide(haystack, at, tally);
-            let passed = self.zeros_by_lows(before, here);
+            let passed = self.zeros_before(lows_first, before, here);
             if passed < WIDE {
                 return Passed {
                     at: at + WIDE,
@@ -121,7 +145,7 @@ impl Fingerprints {
     /// How many of 32 bytes come before the first that ends four that share a bucket. The first three may lie in the 16
     /// bytes before.
     #[inline(always)]
-    fn zeros_by_lows(&self, before: u8x32, here: u8x32) -> usize
+    fn zeros_before(&self, lows_first: bool, before: u8x32, here: u8x32) -> usize
         ensures few { result ≤ 32 }
         ensures zero { (text : ℕ → ℕ) → HasBack before text → HasWide here (λ k. text (16 + k))
             → (k : ℕ) → k < result → shared_buckets self.now (λ j. text (13 + k + j)) ≡ 0 }
@@ -129,7 +153,7 @@ impl Fingerprints {
             → result < 32 → shared_buckets self.now (λ j. text (13 + result + j)) ≢ 0 }
     {
         let lows = self.lows(before, here);
-        if zeros_before_wide(lows) == WIDE {
+        if lows_first && zeros_before_wide(lows) == WIDE {
             return WIDE;
         }
         zeros_before_wide(both_wide(lows, self.highs(before, here)))

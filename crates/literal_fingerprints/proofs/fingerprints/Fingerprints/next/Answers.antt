@@ -28,32 +28,18 @@ returns-then-passed-clause-thrice c =
       near.passed.far c.if-passed.true,
     )
 
-pub returns-then-last-clause-passed : goal.returns-then-last-clause-passed
-returns-then-last-clause-passed c =
-    none_begins c.args.self.now c.args.haystack.now c.args.span c.requires _
-    (λ k after below. c.pass-last.ensures.passed.none k after (omega arith))
-
-pub returns-then-last-clause-stops : goal.returns-then-last-clause-stops
-returns-then-last-clause-stops c = inl (c.pass-last.ensures.passed.stops c.if-last.true)
-
-pub returns-clause-thrice : goal.returns-clause-thrice
-returns-clause-thrice c =
+pub returns-then-is_short-2-clause-thrice : goal.returns-then-is_short-2-clause-thrice
+returns-then-is_short-2-clause-thrice c =
     let near = c.pass-passed.ensures in
-    let last = c.pass-last.ensures in
     omega (
       arith,
       ap (λ (t : Counts). t.scanned) near.ticks,
-      ap (λ (t : Counts). t.scanned) last.ticks,
       ap (λ (t : Counts). t.scanned) c.rest.ensures.ticks,
       near.whole,
       near.least,
       near.passed.within,
       c.if-passed.false,
-      last.whole,
-      last.least,
-      last.passed.within,
-      c.if-last.false,
-      last.rest,
+      near.rest,
       c.rest.ensures.inside.0,
       c.rest.ensures.far,
     )

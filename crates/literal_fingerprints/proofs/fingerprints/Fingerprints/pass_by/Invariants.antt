@@ -1,7 +1,7 @@
 use Rattle.std.proofs.Common.{◌≡◌, ◌+◌, ◌-◌, ◌≤◌, get_or, take}
 use Rattle.literal_fingerprints.specs.Inside.Lanes.{HasBack}
 use Rattle.literal_fingerprints.specs.Inside.Scan.{NoneShared}
-use Rattle.literal_fingerprints.proofs.fingerprints.Fingerprints.pass_by_lows.Given as goal
+use Rattle.literal_fingerprints.proofs.fingerprints.Fingerprints.pass_by.Given as goal
 
 abbrev pub invariant-loop-at : goal.invariant-loop-at
 invariant-loop-at l = record {

@@ -2,7 +2,7 @@ use Rattle.std.proofs.Common.{◌≡◌, ◌+◌, ◌-◌, ◌≤◌, arith, rul
 use Rattle.literal_fingerprints.specs.Inside.Scan.{IsLookedUp}
 use Rattle.literal_fingerprints.proofs.lemmas.Far.{back_of, here_of, lanes_of_half, none_far, passes_far, text}
 use Rattle.literal_fingerprints.proofs.lemmas.Lanes.{lanes_upto}
-use Rattle.literal_fingerprints.proofs.fingerprints.Fingerprints.pass_by_lows.Goals as goal
+use Rattle.literal_fingerprints.proofs.fingerprints.Fingerprints.pass_by.Goals as goal
 
 pub returns-then-passed-lt-WIDE-clause-passed : goal.returns-then-passed-lt-WIDE-clause-passed
 returns-then-passed-lt-WIDE-clause-passed c =
@@ -23,14 +23,14 @@ returns-then-passed-lt-WIDE-clause-passed c =
     ) in
     let loaded = lanes_upto haystack end at inside c.load_wide-here.result c.load_wide-here.ensures.lanes in
     let here = here_of cut at c.load_wide-here.result loaded far in
-    let n = c.zeros_by_lows-passed.result in
+    let n = c.zeros_before-passed.result in
     record {
       within = omega (arith, c.if-passed-lt-WIDE.true);
       none = none_far cut at f far start n before.none
-          (c.zeros_by_lows-passed.ensures.zero (text cut at) before.before here);
+          (c.zeros_before-passed.ensures.zero (text cut at) before.before here);
       far = λ less. omega (arith, before.low, c.requires.after);
       stops = λ less. passes_far cut at f far n
-          (c.zeros_by_lows-passed.ensures.stops (text cut at) before.before here c.if-passed-lt-WIDE.true);
+          (c.zeros_before-passed.ensures.stops (text cut at) before.before here c.if-passed-lt-WIDE.true);
       looked = λ all. absurd (omega (arith, all, c.if-passed-lt-WIDE.true));
     }
 
@@ -58,7 +58,7 @@ loop-at-preserved c =
       high = inside;
       before = back_of cut at c.load_wide-here.result loaded;
       none = none_far cut at f far start 32 before.none
-          (λ k below. c.zeros_by_lows-passed.ensures.zero (text cut at) before.before here k
+          (λ k below. c.zeros_before-passed.ensures.zero (text cut at) before.before here k
           (omega (arith, c.if-passed-lt-WIDE.false)));
       scanned = search rules;
     }

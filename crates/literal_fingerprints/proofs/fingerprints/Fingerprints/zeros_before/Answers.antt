@@ -1,7 +1,7 @@
 use Rattle.std.proofs.Common.{◌+◌, ◌∙◌, arith, sym}
 use Rattle.literal_fingerprints.proofs.lemmas.Far.{by_halves, none_by_lows}
 use Rattle.literal_fingerprints.proofs.lemmas.Sets.{meets}
-use Rattle.literal_fingerprints.proofs.fingerprints.Fingerprints.zeros_by_lows.Goals as goal
+use Rattle.literal_fingerprints.proofs.fingerprints.Fingerprints.zeros_before.Goals as goal
 
 pub returns-then-zeros_before_wide-eq-WIDE-clause-zero : goal.returns-then-zeros_before_wide-eq-WIDE-clause-zero
 returns-then-zeros_before_wide-eq-WIDE-clause-zero c text ends begins k below =
