@@ -5,3 +5,4 @@ pub mod Lanes
 pub mod Passing
 pub mod Scan
 pub mod Sets
+pub mod Skipped

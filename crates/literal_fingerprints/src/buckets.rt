@@ -1,7 +1,8 @@
 //! Patterns dealt out to buckets. Each is held by one. Nothing is proved of which one: that makes a scan faster or
 //! slower, and no more.
-ghost use Rattle.std.specs.Prelude.{◌≡◌, ℕ, ◌^◌, ◌<◌, ◌≤◌, ◌↔◌, IsTrue, List, map};
+ghost use Rattle.std.specs.Prelude.{◌≡◌, ℕ, ◌^◌, ◌<◌, ◌≤◌, ◌↔◌, IsTrue, List, length, map, slice_index, true};
 ghost use Rattle.std.specs.List.{All};
+ghost use Rattle.literal_base.specs.Occurs.{same_byte};
 ghost use Rattle.literal_fingerprints.specs.Inside.Buckets.{AreTooFull, HasByte, Holds, IsHeld, bytes_of, texts_of};
 
 use crate::nibbles::{Nibbles, other_case};
@@ -37,6 +38,39 @@ impl Halves {
         }
     }
 
+    /// The same with those of all bytes.
+    fn with_all(self) -> Halves
+        ensures { (other : ℕ) → HasByte self other → HasByte result other }
+    {
+        Halves {
+            low: self.low | u16::MAX,
+            high: self.high | u16::MAX,
+        }
+    }
+
+    /// The same with those of the byte at a place of a pattern, in both cases where case is ignored. After the pattern
+    /// a text may have any byte.
+    fn with_place(self, ignore_case: bool, pattern: &[u8], place: usize) -> Halves
+        ensures has { place < length pattern.now → (byte : ℕ)
+            → same_byte ignore_case byte (slice_index pattern.now place) ≡ true → HasByte result byte }
+        ensures keeps { (other : ℕ) → HasByte self other → HasByte result other }
+    {
+        if place >= pattern.len() {
+            return self.with_all();
+        }
+        let byte = pattern[place];
+        self.with(byte).with(other_case(ignore_case, byte))
+    }
+
+    /// The same with those of the first bytes of a pattern.
+    fn with_first(self, ignore_case: bool, pattern: &[u8]) -> Halves {
+        let mut halves = self;
+        for place in 0..LOOKED_AT.min(pattern.len()) {
+            halves = halves.with_place(ignore_case, pattern, place);
+        }
+        halves
+    }
+
     /// How many bytes have such halves.
     fn bytes(self) -> u64
         ensures { result ≡ bytes_of self }
@@ -52,27 +86,21 @@ struct Bucket {
 }
 
 impl Bucket {
-    /// Of no pattern. Behind so many bytes a text may have any.
-    fn behind(shortest: usize) -> Bucket {
-        let mut places = [Halves { low: 0, high: 0 }; LOOKED_AT];
-        for place in shortest..LOOKED_AT {
-            places[place] = Halves {
-                low: u16::MAX,
-                high: u16::MAX,
-            };
+    /// Of no pattern.
+    fn empty() -> Bucket {
+        Bucket {
+            places: [Halves { low: 0, high: 0 }; LOOKED_AT],
         }
-        Bucket { places }
     }
 
-    /// The same with a pattern more, in both cases where case is ignored.
+    /// The same with a pattern more.
     fn with(self, ignore_case: bool, pattern: &[u8]) -> Bucket
         ensures holds { Holds result ignore_case pattern.now }
         ensures keeps { (other : List ℕ) → Holds self ignore_case other → Holds result ignore_case other }
     {
         let mut places = self.places;
-        for place in 0..LOOKED_AT.min(pattern.len()) {
-            let byte = pattern[place];
-            places[place] = places[place].with(byte).with(other_case(ignore_case, byte));
+        for place in 0..LOOKED_AT {
+            places[place] = places[place].with_place(ignore_case, pattern, place);
         }
         Bucket { places }
     }
@@ -87,17 +115,6 @@ impl Bucket {
         let start = first.bytes().min(kinds) * second.bytes().min(kinds);
         let end = third.bytes().min(kinds) * fourth.bytes().min(kinds);
         start * end
-    }
-
-    /// How many kinds of bytes a text of such patterns may have: all with one of their upper halves.
-    fn kinds(&self) -> u64
-        ensures { result ≤ 256 }
-    {
-        let mut high: u16 = 0;
-        for halves in self.places {
-            high |= halves.high;
-        }
-        high.count_ones() as u64 * 16
     }
 }
 
@@ -118,8 +135,8 @@ impl Buckets {
         ensures held { All (λ (pattern : List ℕ). IsHeld result.buckets ignore_case pattern)
             (map (λ pattern. pattern.items) patterns.now) }
     {
-        let none = Bucket::behind(shortest_len(patterns));
-        let kinds = together(ignore_case, patterns).kinds();
+        let none = Bucket::empty();
+        let kinds = kinds_of(ignore_case, patterns);
         let mut buckets = [none; BUCKETS];
         let mut wanted: u64 = 0;
         for pattern in patterns {
@@ -169,22 +186,15 @@ impl Buckets {
     }
 }
 
-/// How many bytes of each pattern are looked at.
-fn shortest_len(patterns: &[Vec<u8>]) -> usize {
-    let mut shortest = LOOKED_AT;
+/// How many kinds of bytes a text of such patterns may have: all with one of the upper halves of their first bytes.
+fn kinds_of(ignore_case: bool, patterns: &[Vec<u8>]) -> u64
+    ensures { result ≤ 256 }
+{
+    let mut halves = Halves { low: 0, high: 0 };
     for pattern in patterns {
-        shortest = shortest.min(pattern.len());
+        halves = halves.with_first(ignore_case, pattern);
     }
-    shortest
-}
-
-/// All patterns in one bucket.
-fn together(ignore_case: bool, patterns: &[Vec<u8>]) -> Bucket {
-    let mut bucket = Bucket::behind(LOOKED_AT);
-    for pattern in patterns {
-        bucket = bucket.with(ignore_case, pattern);
-    }
-    bucket
+    halves.high.count_ones() as u64 * 16
 }
 
 /// The bucket by which the fewest texts more pass once it has the pattern too.

@@ -2,10 +2,11 @@
 ghost use Rattle.std.specs.Prelude.{◌≡◌, ◌∷◌, [], ℕ, List, ◌+◌, ◌-◌, ◌*◌, ◌<◌, ◌≤◌, IfSome, IsSome, length, map};
 ghost use Rattle.literal_base.specs.Occurs.{IsValidSpan};
 ghost use Rattle.literal_fingerprints.specs.CandidateScans.{MayStop, NoneBeginsBefore, StopsAtEach, ahead_of};
+ghost use Rattle.literal_fingerprints.specs.CandidateScans.{without_first};
 ghost use Rattle.literal_fingerprints.specs.RarePairs.{AreOf};
 
 use crate::fingerprints::{BYTES, Fingerprints};
-use crate::pair::RarePair;
+use crate::pair::{RarePair, bytes_before_pair};
 use literal_base::Span;
 use literal_base::count::Tally;
 
@@ -16,6 +17,8 @@ pub struct CandidateScan {
     pub fingerprints: Fingerprints,
     /// Two or three bytes of the only pattern.
     pub pair: Option<RarePair>,
+    /// The scan goes by what follows so many first bytes of each pattern.
+    pub skipped: u8,
 }
 
 impl CandidateScan {
@@ -28,16 +31,18 @@ impl CandidateScan {
         ensures one { (pattern : List ℕ) → map (λ pattern. pattern.items) patterns.now ≡ pattern ∷ []
             → 0 < length pattern → IsSome result }
     {
-        if let Some(pair) = pair_for(ignore_case, patterns) {
+        if let Some((skipped, pair)) = pair_for(ignore_case, patterns) {
             return Some(CandidateScan {
                 fingerprints: Fingerprints::from_bytes(&[0; BYTES]),
                 pair: Some(pair),
+                skipped,
             });
         }
         let fingerprints = Fingerprints::new(ignore_case, patterns)?;
         Some(CandidateScan {
             fingerprints,
             pair: None,
+            skipped: 0,
         })
     }
 
@@ -55,11 +60,17 @@ impl CandidateScan {
         ensures counted { tally.new.scanned + span.start ≤ tally.old.scanned + result + ahead_of self.now }
         ensures thrice { tally.new.scanned + 3 * span.start ≤ tally.old.scanned + 3 * result + 16 }
     {
+        let skipped = (self.skipped as usize).min(span.end - span.start);
+        let rest = Span {
+            start: span.start + skipped,
+            end: span.end,
+        };
         // (a copy of the pair: a reference to it would keep the fingerprints out of registers, too)
-        match self.pair {
-            None => self.fingerprints.next(haystack, span, tally),
-            Some(pair) => pair.next(haystack, span, tally),
-        }
+        let at = match self.pair {
+            None => self.fingerprints.next(haystack, rest, tally),
+            Some(pair) => pair.next(haystack, rest, tally),
+        };
+        at - skipped
     }
 
     /// How many bytes a scan reads at most behind the place at which it stops.
@@ -73,10 +84,10 @@ impl CandidateScan {
     }
 }
 
-/// The pair of one pattern.
-fn pair_for(ignore_case: bool, patterns: &[Vec<u8>]) -> Option<RarePair>
-    ensures stops { IfSome result
-        (λ pair. AreOf pair ignore_case (map (λ pattern. pattern.items) patterns.now)) }
+/// The pair of one pattern, and how many bytes of the pattern come before those among which it was chosen.
+fn pair_for(ignore_case: bool, patterns: &[Vec<u8>]) -> Option<(u8, RarePair)>
+    ensures stops { IfSome result (λ found. AreOf found.1 ignore_case
+        (without_first found.0 (map (λ pattern. pattern.items) patterns.now))) }
     ensures one { IfSome result (λ _. length patterns.now ≡ 1) }
     ensures some { (pattern : List ℕ) → map (λ pattern. pattern.items) patterns.now ≡ pattern ∷ []
         → 0 < length pattern → IsSome result }
@@ -84,5 +95,8 @@ fn pair_for(ignore_case: bool, patterns: &[Vec<u8>]) -> Option<RarePair>
     if patterns.len() != 1 {
         return None;
     }
-    RarePair::new(ignore_case, &patterns[0])
+    let pattern = patterns[0].as_slice();
+    let skipped = bytes_before_pair(pattern);
+    let pair = RarePair::new(ignore_case, &pattern[skipped as usize..])?;
+    Some((skipped, pair))
 }

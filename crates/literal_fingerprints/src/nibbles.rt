@@ -54,11 +54,20 @@ impl Nibbles {
         if place < pattern.len() {
             let byte = pattern[place];
             self.buckets(byte) & self.buckets(other_case(ignore_case, byte))
-        } else if self.low == [u8::MAX; 16] && self.high == [u8::MAX; 16] {
-            u8::MAX
         } else {
-            0
+            self.of_any_byte()
         }
+    }
+
+    /// Buckets that each byte has.
+    fn of_any_byte(&self) -> u8
+        ensures { (byte : ℕ) → bit_and result (buckets_of (half_table self.now) byte) ≡ result }
+    {
+        let mut shared = u8::MAX;
+        for half in 0..HALVES {
+            shared &= self.low[half] & self.high[half];
+        }
+        shared
     }
 }
 

@@ -23,6 +23,9 @@ pub const PAIR_BYTES: usize = 8;
 /// Below this sum of their ranks two bytes are so rare that a third one does not help.
 const RARE: usize = 455;
 
+/// Fewer than this many bytes of a pattern are skipped.
+const MOST_SKIPPED: usize = 64;
+
 /// The largest distance between the two bytes of a pair.
 const APART: usize = 3;
 
@@ -311,6 +314,37 @@ impl RarePair {
     }
 }
 
+/// How many bytes of a pattern come before those among which its pair is chosen: none if the first ones have a rare
+/// pair, and else as many as there are before the rarest pair.
+pub fn bytes_before_pair(pattern: &[u8]) -> u8
+    ensures few { 0 < length pattern.now → result < length pattern.now }
+    ensures none { length pattern.now ≡ 0 → result ≡ 0 }
+{
+    if pattern.len() < 2 {
+        return 0;
+    }
+    let (mut skipped, mut least) = (0, pair_rank(pattern, 0));
+    if least < RARE {
+        return 0;
+    }
+    for at in 1..(pattern.len() - 1).min(MOST_SKIPPED) {
+        let rank = pair_rank(pattern, at);
+        if rank < least {
+            (skipped, least) = (at as u8, rank);
+        }
+    }
+    skipped
+}
+
+/// The sum of the ranks of the rarest two bytes after so many first ones.
+fn pair_rank(pattern: &[u8], skipped: usize) -> usize
+    requires { skipped < length pattern.now }
+{
+    let rest = &pattern[skipped..];
+    let (first, second) = rarest_two(rest);
+    rank_at(rest, first) + rank_at(rest, second)
+}
+
 /// How many lanes of two vectors come before the first that is not 0.
 #[inline(always)]
 fn zeros_before_both(front: u8x16, back: u8x16) -> usize
@@ -438,10 +472,14 @@ fn rarest_before(pattern: &[u8], place: usize) -> usize
     rarest
 }
 
-/// How common a byte of the pattern is.
+/// How common a byte of the pattern is: a rank up to 255, and 256 for the byte 0, which is more common than all others
+/// where it occurs at all.
 fn rank_at(pattern: &[u8], at: usize) -> usize
     requires { at < length pattern.now }
-    ensures { result < 256 }
+    ensures { result ≤ 256 }
 {
-    freq_rank(pattern[at]) as usize
+    match pattern[at] {
+        0 => 256,
+        byte => freq_rank(byte) as usize,
+    }
 }

@@ -1,5 +1,5 @@
 -- A search as numbers in an array that is lent.
-use Rattle.std.specs.Prelude.{◌≡◌, ◌+◌, ◌*◌, ◌/◌, ◌%◌, ◌^◌, ◌<◌, ◌≤◌, ℕ, Bool, List, length, map, take, drop, fold}
+use Rattle.std.specs.Prelude.{◌≡◌, ◌+◌, ◌-◌, ◌*◌, ◌/◌, ◌%◌, ◌^◌, ◌<◌, ◌≤◌, ℕ, Bool, List, length, map, take, drop, fold}
 use Rattle.std.specs.Prelude.{◌==◌, None, Option, Some, if◌then◌else◌, slice_index, slice_range}
 use Rattle.std.specs.Int.Bits.{bit_xor}
 use Rattle.std.specs.List.{All}
@@ -54,9 +54,10 @@ classes_end numbers = rows_end numbers + CLASSES_LEN
 abbrev pub classes_in : List ℕ → List ℕ
 classes_in numbers = unpacked (slice_range numbers (rows_end numbers) (rows_end numbers + PACKED_LEN))
 
--- the first of such numbers: where there is a scan for candidates a length that no pattern is below, and else 0
-abbrev pub shortest_by : List ℕ → ℕ
-shortest_by prints = slice_index prints 0
+-- the first of such numbers: one more than the number of bytes that a scan for candidates skips, and 0 if there is no
+-- scan
+abbrev pub past_skipped : List ℕ → ℕ
+past_skipped prints = slice_index prints 0
 
 -- the rare pair in eight bytes: there is one if the first is not 0
 abbrev pub pair_of : List ℕ → Option RarePair
@@ -68,6 +69,7 @@ unfoldable pub scan_by : List ℕ → CandidateScan
 scan_by prints = record {
   fingerprints = fingerprints_in (unpacked (slice_range prints 1 PAIR_AT));
   pair = pair_of (unpacked (drop PAIR_AT prints));
+  skipped = (past_skipped prints - 1) % 256;
 }
 
 -- a number of 32 bits, stirred so that no other becomes the same: its upper half is xored into its lower one, and then
@@ -161,7 +163,7 @@ back_tables_in search numbers = record {
 
 -- the scan by such numbers stops at each of some patterns, if they are of a scan
 abbrev pub ArePrints : List (List ℕ) → Bool → List ℕ → Type 0
-ArePrints patterns ignore_case prints = 0 < shortest_by prints → StopsAtEach (scan_by prints) ignore_case patterns
+ArePrints patterns ignore_case prints = 0 < past_skipped prints → StopsAtEach (scan_by prints) ignore_case patterns
 
 -- the array begins with a whole search for all leftmost matches: with its tables, the length of each pattern, and
 -- a scan that stops at each of them, if any

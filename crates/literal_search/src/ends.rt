@@ -2,7 +2,7 @@
 //! first state, by passing over bytes with which nothing begins.
 ghost use Rattle.std.specs.Prelude.{◌≡◌, ◌+◌, ◌-◌, ◌*◌, ◌<◌, ◌≤◌, ◌^◌, IfOk, IfSome, MatchOption, length};
 ghost use Rattle.literal_base.specs.Occurs.{IsValidSpan};
-ghost use Rattle.literal_search.specs.Prepared.{scan_by, shortest_by};
+ghost use Rattle.literal_search.specs.Prepared.{scan_by, past_skipped};
 ghost use Rattle.literal_search.specs.Inside.NextEnd.{FindsNext, StepsToStop};
 
 use crate::prepared::{Damaged, SCAN_LEN, scan_in};
@@ -70,9 +70,9 @@ impl<'t> Table<'t> {
 #[inline(always)]
 fn kept_or_read(kept: Option<CandidateScan>, prints: &[u32]) -> Option<CandidateScan>
     requires prints { length prints.now ≡ SCAN_LEN }
-    requires kept { IfSome kept (λ f. (0 < shortest_by prints.now) × (f ≡ scan_by prints.now)) }
-    ensures { MatchOption result (shortest_by prints.now ≡ 0)
-        (λ f. (0 < shortest_by prints.now) × (f ≡ scan_by prints.now)) }
+    requires kept { IfSome kept (λ f. (0 < past_skipped prints.now) × (f ≡ scan_by prints.now)) }
+    ensures { MatchOption result (past_skipped prints.now ≡ 0)
+        (λ f. (0 < past_skipped prints.now) × (f ≡ scan_by prints.now)) }
 {
     match kept {
         Some(scan) => Some(scan),

@@ -9,7 +9,6 @@ use crate::classes::Classes;
 use crate::prepared::{
     ArrayTooShort, NO_LISTED, NO_PATTERN, SCAN_LEN, assemble, put_numbers, scan_numbers,
 };
-use crate::shortest_len;
 use literal_fingerprints::CandidateScan;
 use std::alloc::{AllocError, Global};
 use std::marker::Model;
@@ -113,5 +112,5 @@ pub fn prints_for(ignore_case: bool, patterns: &[Vec<u8>]) -> [u32; SCAN_LEN]
     ensures { ArePrints (map (λ pattern. pattern.items) patterns.now) ignore_case result }
 {
     let scan = CandidateScan::new(ignore_case, patterns);
-    scan_numbers(shortest_len(patterns), scan.as_ref())
+    scan_numbers(scan.as_ref())
 }

@@ -6,7 +6,7 @@ ghost use Rattle.std.specs.Prelude.{min, slice_index, slice_range};
 ghost use Rattle.std.specs.Int.{from_le_bytes, w32};
 ghost use Rattle.std.specs.List.{repeat};
 ghost use Rattle.literal_search.specs.Prepared.{AreShort, HasParts};
-ghost use Rattle.literal_search.specs.Prepared.{check_of, pair_of, scan_by, shortest_by};
+ghost use Rattle.literal_search.specs.Prepared.{check_of, pair_of, scan_by, past_skipped};
 ghost use Rattle.literal_search.specs.SearchValue.{longest_of};
 ghost use Rattle.literal_search.specs.Inside.Prepared.{IsHeader, Puts, numbers_for, header_table};
 ghost use Rattle.literal_search.specs.Inside.Packed.{packed, unpacked};
@@ -25,17 +25,18 @@ use std::fmt;
 use std::marker::Model;
 
 /// What the first number of a prepared search for leftmost matches is.
-pub const PREPARED_VERSION: u32 = 0x4C50_0009;
+pub const PREPARED_VERSION: u32 = 0x4C50_000A;
 
 /// What that of one for everything that occurs is.
-pub const OVERLAPPING_VERSION: u32 = 0x4C4F_0007;
+pub const OVERLAPPING_VERSION: u32 = 0x4C4F_0008;
 
 /// Where the lengths of the patterns begin, behind the version, the check, the width, how many patterns and places in
 /// the rows there are, and how long the longest pattern is. Behind them stand the rows, and the class of each byte.
 pub const LENGTHS_AT: usize = 6;
 
-/// How many numbers a scan for candidates takes, behind all others: a length that no pattern is below, or 0 where there
-/// is no scan, and one for four bytes each of its fingerprints, and of its rare pair. Zeros stand for what it has not.
+/// How many numbers a scan for candidates takes, after all others: one more than the number of bytes that it skips, or
+/// 0 if there is no scan, and one for four bytes each of its fingerprints, and of its rare pair. Zeros stand for what
+/// it has not.
 pub const SCAN_LEN: usize = PAIR_AT + PAIR_BYTES / 4;
 
 /// Which of these numbers is the first of the rare pair.
@@ -45,7 +46,7 @@ const PAIR_AT: usize = 1 + BYTES / 4;
 /// two places, and no longest pattern; then the row of its one state, of which its one class leads to itself, and with
 /// which nothing ends, this class for each byte, and no scan for candidates.
 pub const NO_PATTERN: [u32; 299] = [
-    0x4C500009, 0x46D0998E, 1, 0, 2, 0, 0, NOTHING, 0, 0, 0, 0, 0, 0, 0, 0, 0, 0, 0, 0, 0, 0, 0, 0,
+    0x4C50000A, 0x46D0998E, 1, 0, 2, 0, 0, NOTHING, 0, 0, 0, 0, 0, 0, 0, 0, 0, 0, 0, 0, 0, 0, 0, 0,
     0, 0, 0, 0, 0, 0, 0, 0, 0, 0, 0, 0, 0, 0, 0, 0, 0, 0, 0, 0, 0, 0, 0, 0, 0, 0, 0, 0, 0, 0, 0, 0,
     0, 0, 0, 0, 0, 0, 0, 0, 0, 0, 0, 0, 0, 0, 0, 0, 0, 0, 0, 0, 0, 0, 0, 0, 0, 0, 0, 0, 0, 0, 0, 0,
     0, 0, 0, 0, 0, 0, 0, 0, 0, 0, 0, 0, 0, 0, 0, 0, 0, 0, 0, 0, 0, 0, 0, 0, 0, 0, 0, 0, 0, 0, 0, 0,
@@ -60,7 +61,7 @@ pub const NO_PATTERN: [u32; 299] = [
 /// The prepared search for everything that occurs of no pattern: [`OVERLAPPING_VERSION`], its check, and the numbers of
 /// [`NO_PATTERN`] with that of where the last of no lists ends.
 pub const NO_LISTED: [u32; 300] = [
-    0x4C4F0007, 0xD8CFA0FA, 1, 0, 2, 0, 0, NOTHING, 0, 0, 0, 0, 0, 0, 0, 0, 0, 0, 0, 0, 0, 0, 0, 0,
+    0x4C4F0008, 0xD8CFA0FA, 1, 0, 2, 0, 0, NOTHING, 0, 0, 0, 0, 0, 0, 0, 0, 0, 0, 0, 0, 0, 0, 0, 0,
     0, 0, 0, 0, 0, 0, 0, 0, 0, 0, 0, 0, 0, 0, 0, 0, 0, 0, 0, 0, 0, 0, 0, 0, 0, 0, 0, 0, 0, 0, 0, 0,
     0, 0, 0, 0, 0, 0, 0, 0, 0, 0, 0, 0, 0, 0, 0, 0, 0, 0, 0, 0, 0, 0, 0, 0, 0, 0, 0, 0, 0, 0, 0, 0,
     0, 0, 0, 0, 0, 0, 0, 0, 0, 0, 0, 0, 0, 0, 0, 0, 0, 0, 0, 0, 0, 0, 0, 0, 0, 0, 0, 0, 0, 0, 0, 0,
@@ -180,15 +181,15 @@ pub fn is_checked(numbers: &[u32], end: usize) -> bool
 }
 
 /// The numbers of a scan for candidates, if there is one.
-pub fn scan_numbers(shortest: usize, scan: Option<&CandidateScan>) -> [u32; SCAN_LEN]
+pub fn scan_numbers(scan: Option<&CandidateScan>) -> [u32; SCAN_LEN]
     ensures { MatchOption scan.entry (result ≡ repeat SCAN_LEN (0 ∷ []))
-        (λ s. (shortest_by result ≡ min shortest (2 ^ 32 - 1)) × (scan_by result ≡ s.now)) }
+        (λ s. (0 < past_skipped result) × (scan_by result ≡ s.now)) }
 {
     let mut numbers = [0; SCAN_LEN];
     let Some(scan) = scan else {
         return numbers;
     };
-    numbers[0] = shortest.min(u32::MAX as usize) as u32;
+    numbers[0] = scan.skipped as u32 + 1;
     numbers[PAIR_AT..].copy_from_slice(&pair_numbers(&scan.pair));
     pack(&scan.fingerprints.to_bytes(), &mut numbers[1..PAIR_AT]);
     numbers
@@ -228,8 +229,8 @@ fn number_at(bytes: &[u8], at: usize) -> u32
 #[inline(always)]
 pub fn scan_in(prints: &[u32]) -> Option<CandidateScan>
     requires { length prints.now ≡ SCAN_LEN }
-    ensures { MatchOption result (shortest_by prints.now ≡ 0)
-        (λ s. (0 < shortest_by prints.now) × (s ≡ scan_by prints.now)) }
+    ensures { MatchOption result (past_skipped prints.now ≡ 0)
+        (λ s. (0 < past_skipped prints.now) × (s ≡ scan_by prints.now)) }
 {
     if prints[0] == 0 {
         return None;
@@ -248,6 +249,7 @@ fn scan_by(prints: &[u32]) -> CandidateScan
     CandidateScan {
         fingerprints: Fingerprints::from_bytes(&bytes),
         pair: pair_by(&prints[PAIR_AT..SCAN_LEN]),
+        skipped: (prints[0].saturating_sub(1) % 256) as u8,
     }
 }
 

@@ -30,8 +30,8 @@ fn fills_as_many_places_as_it_tells(rt: HostRuntime) -> Result<(), Fail> {
     let needed = search.prepared_len();
     let mut array = vec![in rt.alloc(); 0; needed]?;
     assert!(rt; search.prepare(&mut array) == Ok(needed));
-    // (the first number of the scan for candidates is how long the shortest word is: there is one)
-    assert!(rt; array[needed - 35] == 6);
+    // (the first number of the scan for candidates: there is one, and it skips no byte)
+    assert!(rt; array[needed - 35] == 1);
     assert!(rt; array.pop().is_some());
     assert!(rt; search.prepare(&mut array) == Err(ArrayTooShort { needed }));
     Ok(())

@@ -1,10 +1,9 @@
 -- Sets of buckets, as bits of numbers.
 use Rattle.std.proofs.Common.{◌≡◌, ◌≢◌, ℕ, ◌%◌, ◌/◌, ◌∙◌, List, IsTrue, not, ap, arith, bit_and, bit_or, get_or}
-use Rattle.std.proofs.Common.{replicate, sym}
+use Rattle.std.proofs.Common.{sym}
 use Rattle.std.proofs.lemmas.Bool.Decides.{nat_tests}
 use Rattle.std.proofs.lemmas.Nat.{and_assoc, and_comm}
 use Rattle.std.proofs.lemmas.Nat.Bits.{bit_at-lt, bit_at_or, bit_at_xor, same_from_bits}
-use Rattle.std.proofs.lemmas.Simd.{get_or-replicate}
 use Rattle.std.specs.Int.Bits.{and_self, and_zero_r, bit_xor}
 use Rattle.std.specs.Prelude.{nat_eq}
 
@@ -35,13 +34,13 @@ both_within a b c d one other =
 pub some_within : (a b : ℕ) → IsWithin a b → a ≢ 0 → b ≢ 0
 some_within a b within some none = some (sym within ∙ (ap (bit_and a) none ∙ and_zero_r a))
 
--- each byte is in all buckets of tables that have all at each half
-pub within_all : (low high : List ℕ) → low ≡ replicate 16 255 → high ≡ replicate 16 255 → (byte : ℕ)
-    → IsWithin 255 (bit_and (get_or low (byte % 16) 0) (get_or high (byte / 16 % 16) 0))
-within_all low high all_low all_high byte =
-    ap (bit_and 255) (meets _ _ 255 255
-    (ap (λ l. get_or l (byte % 16) 0) all_low ∙ get_or-replicate 16 (byte % 16) 255 0 (omega arith))
-    (ap (λ l. get_or l (byte / 16 % 16) 0) all_high ∙ get_or-replicate 16 (byte / 16 % 16) 255 0 (omega arith)))
+pub within : (a b c : ℕ) → IsWithin a b → IsWithin b c → IsWithin a c
+within a b c one other =
+    ap (λ x. bit_and x c) (sym one) ∙ (and_assoc c a b ∙ (ap (bit_and a) other ∙ one))
+
+-- what is in two sets is in what they share
+pub both_of : (a b c : ℕ) → IsWithin a b → IsWithin a c → IsWithin a (bit_and b c)
+both_of a b c one other = sym (and_assoc c a b) ∙ (ap (λ x. bit_and x c) one ∙ other)
 
 -- bits in which two numbers differ, set in one and in the other
 pub same_once_set : (a b : ℕ) → bit_or a (bit_xor b a) ≡ bit_or b (bit_xor b a)

@@ -65,9 +65,9 @@ impl Fingerprints {
         front.wrapping_add(back) <= FEW_BITS
     }
 
-    /// Looks up bytes 32 at a time, as long as there are so many, or until a pattern may begin by its fingerprint. If the
-    /// low halves of the tables let few places pass, the high halves are looked up only where four bytes share a bucket
-    /// by the low ones. Each way has a loop of its own.
+    /// Looks up bytes 32 at a time, as long as there are so many, or until a pattern may begin by its fingerprint. If
+    /// the low halves of the tables let few places pass, the high halves are looked up only where four bytes share a
+    /// bucket by the low ones. Each way has a loop of its own.
     #[inline(always)]
     fn pass_wide(
         &self,

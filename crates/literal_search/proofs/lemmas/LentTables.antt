@@ -24,7 +24,7 @@ use Rattle.literal_search.specs.PreparedOverlapping.{AreSized, AreTables}
 use Rattle.literal_search.specs.PreparedOverlapping.{IsPreparedOverlapping, Tables, tables_in}
 use Rattle.literal_search.specs.PreparedOverlapping.{TakesListedPlaces, ends_at, ends_in, overlapping_value}
 use Rattle.literal_search.specs.PreparedOverlapping.{listed_len, overlapping_len, prints_behind, starts_in}
-use Rattle.literal_search.specs.Prepared.{ArePrints, classes_end, scan_by, rows_at, shortest_by}
+use Rattle.literal_search.specs.Prepared.{ArePrints, classes_end, scan_by, rows_at, past_skipped}
 use Rattle.literal_search.specs.declared.prepared.Header.{Header}
 use Rattle.literal_search.specs.declared.prepared.Damaged.{Damaged}
 use Rattle.literal_search.specs.declared.prepared.TheConstants.{SCAN_LEN, OVERLAPPING_VERSION}
@@ -207,7 +207,7 @@ module _ {search : OverlappingValue} {p : LentTables} (are : AreFor search p) (h
 
 -- what is written of tables is prepared for their search
 module _ (t : Tables) (tables : AreTables t) (prints : List ℕ) (prints_long : length prints ≡ SCAN_LEN)
-    (pass : 0 < shortest_by prints → StopsAtEach (scan_by prints) t.ignore_case t.patterns)
+    (pass : 0 < past_skipped prints → StopsAtEach (scan_by prints) t.ignore_case t.patterns)
   where
     abbrev pub all_of : List ℕ
     all_of = numbers_for OVERLAPPING_VERSION t.classes t.width t.patterns t.rows t.starts (t.ends ++ prints)
@@ -290,7 +290,7 @@ module _ (t : Tables) (tables : AreTables t) (prints : List ℕ) (prints_long : 
         longest = refl;
         tables = subst AreTables tables_are tables;
         lengths = lengths_written OVERLAPPING_VERSION t.classes t.width t.patterns t.rows t.starts (t.ends ++ prints);
-        prints = subst (λ (p : List ℕ). 0 < shortest_by p → StopsAtEach (scan_by p) t.ignore_case t.patterns)
+        prints = subst (λ (p : List ℕ). 0 < past_skipped p → StopsAtEach (scan_by p) t.ignore_case t.patterns)
             (sym prints_are) pass;
       };
       long = sym whole;

@@ -7,7 +7,7 @@ use Rattle.literal_base.specs.Occurs.{IsValidSpan, NoneIsEmpty, Occurs, between,
 use Rattle.literal_base.specs.declared.search.Span.{Span}
 use Rattle.literal_fingerprints.specs.CandidateScans.{StopsAtEach}
 use Rattle.literal_fingerprints.specs.declared.candidates.CandidateScan.{CandidateScan}
-use Rattle.literal_search.specs.Prepared.{ArePrints, scan_by, shortest_by}
+use Rattle.literal_search.specs.Prepared.{ArePrints, scan_by, past_skipped}
 use Rattle.literal_search.specs.Earliest.{IsEarliestEnd}
 use Rattle.literal_search.specs.Inside.Classes.{AreClasses, Tells, symbols_in}
 use Rattle.literal_search.specs.Inside.NextEnd.{FindsNext, HasComeTo, IsNextStop, Stands, StandsNext}
@@ -227,6 +227,6 @@ finds_earliest t patterns ignore_case prints is pass haystack bytes span valid r
 
 -- the scan of numbers that stop at each pattern stops there, too
 pub kept_pass : (patterns : List (List ℕ)) (ignore_case : Bool) (prints : List ℕ) (kept : Option CandidateScan)
-    → MatchOption kept (shortest_by prints ≡ 0) (λ f. (0 < shortest_by prints) × (f ≡ scan_by prints))
+    → MatchOption kept (past_skipped prints ≡ 0) (λ f. (0 < past_skipped prints) × (f ≡ scan_by prints))
     → ArePrints patterns ignore_case prints → IfSome kept (λ f. StopsAtEach f ignore_case patterns)
 kept_pass patterns ignore_case prints kept are pass = grind arith

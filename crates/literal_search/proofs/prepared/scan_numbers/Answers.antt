@@ -1,5 +1,5 @@
-use Rattle.std.proofs.Common.{◌≡◌, ◌++◌, ◌∷◌, ◌∙◌, List, [], ap, append-nil, arith, length, subst, sym, ℕ}
-use Rattle.std.specs.Prelude.{◌^◌, ◌-◌, MatchOption, min}
+use Rattle.std.proofs.Common.{◌≡◌, ◌+◌, ◌<◌, ◌++◌, ◌∷◌, ◌∙◌, List, [], ap, append-nil, arith, length, subst, sym, ℕ}
+use Rattle.std.specs.Prelude.{MatchOption}
 use Rattle.std.specs.List.{repeat}
 use Rattle.literal_fingerprints.specs.FingerprintsValue.{fingerprints_in}
 use Rattle.literal_search.specs.Inside.Packed.{unpacked}
@@ -13,13 +13,13 @@ returns c =
     let numbers = c.pack.new.numbers in
     let behind = c.copy_from_slice.new.self in
     let long : length numbers ≡ 32 = ap (λ (l : List ℕ). length l) c.pack.ensures.packed in
-    let all = c.min.result ∷ (numbers ++ (behind ++ [])) in
+    let skipped = c.in-Some.scan.now.skipped in
+    let all = (skipped + 1) ∷ (numbers ++ (behind ++ [])) in
     let pair : pair_of (unpacked (behind ++ [])) ≡ c.in-Some.scan.now.pair =
     ap (λ n. pair_of (unpacked n)) (append-nil behind ∙ c.copy_from_slice.ensures.after) ∙ c.pair_numbers.ensures in
     subst (λ o. MatchOption o (all ≡ repeat SCAN_LEN (0 ∷ []))
-    (λ s. (c.min.result ≡ min c.args.shortest (2 ^ 32 - 1)) × (scan_by all ≡ s.now)))
-    (sym c.in-Some.is) (
-      omega (arith, c.min.ensures),
-      scan_of c.min.result numbers (behind ++ []) c.in-Some.scan.now.fingerprints c.in-Some.scan.now.pair long
+    (λ s. (0 < skipped + 1) × (scan_by all ≡ s.now))) (sym c.in-Some.is) (
+      omega arith,
+      scan_of skipped numbers (behind ++ []) c.in-Some.scan.now.fingerprints c.in-Some.scan.now.pair (omega arith) long
           (ap fingerprints_in c.pack.ensures.bytes ∙ c.to_bytes.ensures) pair,
     )

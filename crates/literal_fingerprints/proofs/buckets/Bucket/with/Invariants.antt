@@ -7,6 +7,6 @@ abbrev pub invariant-loop-place : goal.invariant-loop-place
 invariant-loop-place l = record {
   long : length l.places ≡ 4;
   kept : (k byte : ℕ) → HasByte (halves_at l.fn.self.places k) byte → HasByte (halves_at l.places k) byte;
-  held : (k byte : ℕ) → k < l.place → same_byte l.ignore_case byte (get_or l.pattern k 0) ≡ true
+  held : (k byte : ℕ) → k < l.place → k < length l.pattern → same_byte l.ignore_case byte (get_or l.pattern k 0) ≡ true
       → HasByte (halves_at l.places k) byte;
 }

@@ -1,8 +1,7 @@
 use Rattle.std.proofs.Common.{◌∙◌, ap, bit_and, inl, inr, sym}
-use Rattle.std.specs.Cmp.Lexicographic.{same_text}
 use Rattle.literal_fingerprints.specs.FingerprintsValue.{buckets_of}
 use Rattle.literal_fingerprints.specs.Inside.Nibbles.{half_table}
-use Rattle.literal_fingerprints.proofs.lemmas.Sets.{left_within, right_within, within_all}
+use Rattle.literal_fingerprints.proofs.lemmas.Sets.{left_within, right_within}
 use Rattle.literal_fingerprints.proofs.nibbles.Nibbles.shared.Goals as goal
 
 pub returns-then-place-pattern : goal.returns-then-place-pattern
@@ -18,8 +17,3 @@ returns-then-place-pattern c byte same =
           ap (bit_and (bit_and own other)) (ap (buckets_of table) is ∙ sym c.buckets-then-place-pattern.ensures)
           ∙ right_within own other
     ]
-
-pub returns-then-eq-2 : goal.returns-then-eq-2
-returns-then-eq-2 c byte same =
-    let table = c.args.self.now in
-    within_all table.low table.high (same_text _ _ c.if-eq.ensures) (same_text _ _ c.if-eq-2.ensures) byte

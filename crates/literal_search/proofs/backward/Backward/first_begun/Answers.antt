@@ -8,7 +8,7 @@ use Rattle.literal_base.specs.declared.search.Span.{Span}
 use Rattle.literal_base.specs.Occurs.{between}
 use Rattle.literal_fingerprints.specs.declared.candidates.CandidateScan.{CandidateScan}
 use Rattle.literal_search.specs.Inside.Leftmost.{AreFor, IsFirstBegun, IsFront, LiesInPart, ReadsFor}
-use Rattle.literal_search.specs.Prepared.{scan_by, shortest_by}
+use Rattle.literal_search.specs.Prepared.{scan_by, past_skipped}
 use Rattle.literal_search.specs.declared.backward.Backward.{Backward}
 use Rattle.literal_search.specs.SearchValue.{first_part}
 use Rattle.literal_search.specs.declared.backward.Begun.{Begun}
@@ -41,8 +41,8 @@ begins b span part old ordered part_is = record {
 }
 
 -- its scan is for its patterns
-for_scan : (b : Backward) (scan : Option CandidateScan) → MatchOption scan (shortest_by b.prints.now ≡ 0)
-    (λ s. (0 < shortest_by b.prints.now) × (s ≡ scan_by b.prints.now)) → AreFor b scan
+for_scan : (b : Backward) (scan : Option CandidateScan) → MatchOption scan (past_skipped b.prints.now ≡ 0)
+    (λ s. (0 < past_skipped b.prints.now) × (s ≡ scan_by b.prints.now)) → AreFor b scan
 for_scan b None is = λ search are. tt
 for_scan b (Some s) is = λ search are. grind (arith, is, are.prints)
 

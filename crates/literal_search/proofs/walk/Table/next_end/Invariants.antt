@@ -1,5 +1,5 @@
 use Rattle.std.proofs.Common.{◌<◌, IfSome, ◌≡◌, ◌+◌, ◌-◌, ◌*◌, ◌≤◌}
-use Rattle.literal_search.specs.Prepared.{scan_by, shortest_by}
+use Rattle.literal_search.specs.Prepared.{scan_by, past_skipped}
 use Rattle.literal_search.specs.Inside.NextEnd.{HasComeTo}
 use Rattle.literal_search.specs.declared.scan.TheConstants.{LONGEST}
 use Rattle.literal_search.proofs.walk.Table.next_end.Given as goal
@@ -10,7 +10,7 @@ invariant-loop-scan l = record {
   inside : l.start ≤ l.fn.span.end;
   short : l.near ≤ 6 * LONGEST;
   far : l.nearest ≤ l.near;
-  kept : IfSome l.scan (λ f. (0 < shortest_by l.prints) × (f ≡ scan_by l.prints));
+  kept : IfSome l.scan (λ f. (0 < past_skipped l.prints) × (f ≡ scan_by l.prints));
   comes : HasComeTo l.self l.prints l.haystack l.fn.from l.fn.span (record { place = l.from; end = l.start });
   others : l.tally ≡ record l.fn.tally { scanned = l.tally.scanned };
   least : l.fn.tally.scanned + l.start ≤ l.tally.scanned + l.fn.span.start;
