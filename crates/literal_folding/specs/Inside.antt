@@ -1,0 +1,2 @@
+-- What models and private functions alone cite.
+pub mod Foldings
