@@ -14,7 +14,8 @@ from pathlib import Path
 SOURCE = Path("/usr/share/unicode/CaseFolding.txt")
 TABLE = Path(__file__).resolve().parent.parent / "crates/literal_folding/src/foldings.rt"
 
-HEAD = """//! The simple case foldings of Unicode {version} that keep the length in UTF-8, from `checks/case_foldings.py`.
+HEAD = """\
+//! The simple case foldings of Unicode {version} that keep the length in UTF-8, from `checks/case_foldings.py`.
 
 /// The characters with a folding, in rising order. A row has the first and the last of some characters, the step from
 /// each to the next, and the folding of the first; the foldings of the others have the same distances.
