@@ -1,23 +1,27 @@
 //! The search for leftmost matches with Unicode's case ignored.
 ghost use Rattle.std.specs.Prelude.{◌≡◌, ◌<◌, ◌≤◌, ◌↔◌, ◌++◌, ◌∷◌, [], ℕ, IfErr, IfOk, IfSome, IsTrue, OnErr, false};
 ghost use Rattle.std.specs.Prelude.{length, map};
+ghost use Rattle.std.specs.Option.{option_map};
 ghost use Rattle.literal_base.specs.Given.{CanBeTaken};
 ghost use Rattle.literal_base.specs.Greedy.{IsGreedy};
 ghost use Rattle.literal_base.specs.Leftmost.{IsLeftmost};
 ghost use Rattle.literal_base.specs.Occurs.{IsValidSpan, Occurs, whole_of};
 ghost use Rattle.literal_search.specs.SearchValue.{CanBeKept, GivesAll, MayRefuseList, NeedTooManyReversed};
 ghost use Rattle.literal_search.specs.SearchValue.{RefusesSearch, search_by};
+ghost use Rattle.literal_search.specs.Stream.{stream_of};
 ghost use Rattle.literal_folding.specs.FoldedSearchValue.{AreFolded, BuildsFolded, NeedTooManyFolded, RefusesFolded};
 ghost use Rattle.literal_folding.specs.FoldedSearchValue.{kept_case};
 ghost use Rattle.literal_folding.specs.Folding.{folded};
 
 use crate::fold::fold_in_place;
+use crate::reader::FoldedReader;
 use crate::text::FoldedText;
 use literal_base::packed::MatchKind;
 use literal_base::{Match, Span};
 use literal_ids::PatternID;
-use literal_search::{BuildError, Matches, Search};
+use literal_search::{BuildError, Matches, Search, StreamMatches};
 use std::alloc::{AllocError, Global};
+use std::io::Read;
 use std::marker::Model;
 
 /// Searches for leftmost matches of any number of patterns, with Unicode's case ignored: of the folded patterns in a
@@ -101,6 +105,20 @@ impl FoldedSearch {
         ensures no_memory { OnErr result (MayRefuseList (kept_case self.now) text.now (whole_of text.now)) }
     {
         self.search.find_all(text.as_bytes())
+    }
+
+    /// All matches in the text that a reader gives, as by [`Search::find_stream`]: of the text only a window is kept.
+    /// Offsets are in the whole text. A haystack in memory is a reader too. It asks for memory for the window, and for
+    /// 4 KiB more.
+    pub fn find_stream<R: Read + Drop>(
+        &self,
+        alloc: Global,
+        reader: R,
+    ) -> Result<StreamMatches<'_, FoldedReader<R>>, AllocError>
+        ensures { IfOk result (λ m. m ≡ stream_of (kept_case self.now) (option_map folded (R.remaining reader))) }
+    {
+        let reader = FoldedReader::new(alloc, reader)?;
+        self.search.find_stream(alloc, reader)
     }
 }
 

@@ -15,6 +15,7 @@ use Rattle.std.specs.Char.{IsScalar, encode_utf8, len_utf8}
 use Rattle.std.specs.List.{starts_with}
 use Rattle.std.specs.Str.{StartsWithNoChar, all_scalars}
 use Rattle.literal_folding.specs.Folding.{first_char_of, first_code_of}
+use Rattle.literal_folding.specs.Inside.Blocks.{bytes_behind_of}
 
 -- ---- the bytes of a character
 
@@ -33,6 +34,7 @@ pub record Shape (c : ℕ) : Type 0 where
   pub is : encode_utf8 c ≡ lead ∷ conts
   pub begins : (lead < 128) ⊎ (192 ≤ lead)
   pub go_on : AreConts conts
+  pub count : length conts ≡ bytes_behind_of lead
 
 one : (c : ℕ) → c < 128 → encode_utf8 c ≡ c ∷ []
 one c p = encode_ascii c p
@@ -57,9 +59,18 @@ below c is = grind (arith, nat_tests)
 cont : (n : ℕ) → IsCont (128 + n % 64)
 cont n = (omega arith, omega arith)
 
+behind_two : (c : ℕ) → 128 ≤ c → c < 2048 → bytes_behind_of (192 + c / 64) ≡ 1
+behind_two c p q = grind (arith, nat_tests)
+
+behind_three : (c : ℕ) → 2048 ≤ c → c < 65536 → bytes_behind_of (224 + c / 4096) ≡ 2
+behind_three c p q = grind (arith, nat_tests)
+
+behind_four : (c : ℕ) → 65536 ≤ c → bytes_behind_of (240 + c / 262144) ≡ 3
+behind_four c p = grind (arith, nat_tests)
+
 pub shape : (c : ℕ) → IsScalar c → Shape c
 shape c is = elim (cases_lt c 128) [
-  | inl p ↦ record { lead = c; conts = []; is = one c p; begins = inl p; go_on = tt }
+  | inl p ↦ record { lead = c; conts = []; is = one c p; begins = inl p; go_on = tt; count = grind (arith, nat_tests) }
   | inr p ↦ elim (cases_lt c 2048) [
     | inl q ↦ record {
       lead = 192 + c / 64;
@@ -67,6 +78,7 @@ shape c is = elim (cases_lt c 128) [
       is = two c p q;
       begins = inr (omega arith);
       go_on = (cont c, tt);
+      count = sym (behind_two c p q);
     }
     | inr q ↦ elim (cases_lt c 65536) [
       | inl r ↦ record {
@@ -75,6 +87,7 @@ shape c is = elim (cases_lt c 128) [
         is = three c q r;
         begins = inr (omega arith);
         go_on = (cont (c / 64), (cont c, tt));
+        count = sym (behind_three c q r);
       }
       | inr r ↦ record {
         lead = 240 + c / 262144;
@@ -82,6 +95,7 @@ shape c is = elim (cases_lt c 128) [
         is = four c r;
         begins = inr (omega arith);
         go_on = (cont (c / 4096), (cont (c / 64), (cont c, tt)));
+        count = sym (behind_four c r);
       }
     ]
   ]

@@ -198,7 +198,7 @@ front xs ys us vs e p = (
   sym (drop-append-le (length us) xs ys p) ∙ ap (drop (length us)) e ∙ drop-append_seam us vs,
 )
 
-none_left : (xs : List ℕ) → length xs ≡ 0 → xs ≡ []
+pub none_left : (xs : List ℕ) → length xs ≡ 0 → xs ≡ []
 none_left [] e = refl
 none_left (x ∷ xs) e = absurd (omega arith)
 
