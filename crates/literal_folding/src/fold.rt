@@ -73,14 +73,28 @@ fn first_char(bytes: &[u8]) -> Option<char>
     bytes.starts_with(encoded).then_some(c)
 }
 
-/// Folds the character with which the bytes begin, if they do with a whole one.
+/// Folds the character with which the bytes begin, if they do with a whole one. There has to be a byte.
 fn fold_first(bytes: &mut [u8])
+    requires { 0 < length bytes.old }
+    ensures { bytes.new ≡ with_first_folded bytes.old }
+{
+    match bytes[0] {
+        lead @ ..0x80 => bytes[0] = lead.to_ascii_lowercase(),
+        0x80..0xC0 => {}
+        _ => fold_first_char(bytes),
+    }
+}
+
+/// The same, whatever the first byte is.
+fn fold_first_char(bytes: &mut [u8])
     ensures { bytes.new ≡ with_first_folded bytes.old }
 {
     if let Some(c) = first_char(bytes) {
-        let mut buffer = [0; 4];
-        let folding = fold_char(c).encode_utf8(&mut buffer);
-        overwrite(bytes, folding.as_bytes());
+        let folding = fold_char(c);
+        if folding != c {
+            let mut buffer = [0; 4];
+            overwrite(bytes, folding.encode_utf8(&mut buffer).as_bytes());
+        }
     }
 }
 

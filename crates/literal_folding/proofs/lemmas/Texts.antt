@@ -3,7 +3,7 @@ use lib.Utf8.{low_scalar, scalar}
 use borrow.Rule.Slice.PartMut.{post_of, put_mid}
 use Rattle.std.proofs.Common.{◌≡◌, refl, ℕ, suc, ◌+◌, ◌-◌, ◌<◌, ◌≤◌, true, List, [], ◌∷◌, ◌++◌, Option, Some, None}
 use Rattle.std.proofs.Common.{append-nil, append_assoc, arith, ap, sym, ◌∙◌, subst, ◌⊎◌, ⊎_elim, inl, inr, length, map}
-use Rattle.std.proofs.Common.{take, drop, get_or, take-append-drop, length-append, length-take, length-drop}
+use Rattle.std.proofs.Common.{take, drop, get_or, slice_set, take-append-drop, length-append, length-take, length-drop}
 use Rattle.std.proofs.lemmas.Bool.{and_parts, cases_lt}
 use Rattle.std.proofs.lemmas.Bool.Decides.{nat_tests}
 use Rattle.std.proofs.lemmas.List.{append_cancel_left, take_all, drop-append-le, take-append-le}
@@ -49,6 +49,31 @@ pub with_first_folded-some : (text : List ℕ) (c : ℕ) → first_char_of text 
 unfolding with_first_folded
 with_first_folded-some text c e =
     ap (λ o. with_first o text) e ∙ ap (λ n. encode_utf8 (folded_char c) ++ drop n text) (sym (folded_char_len c))
+
+-- a character that is its own folding stays
+pub with_first_folded-same : (text : List ℕ) (c : ℕ) → first_char_of text ≡ Some c → folded_char c ≡ c
+    → with_first_folded text ≡ text
+with_first_folded-same text c e same =
+    with_first_folded-some text c e ∙ ap (λ d. encode_utf8 d ++ drop (len_utf8 d) text) same
+    ∙ sym (begins_with text c e).split
+
+-- a first byte that is ASCII is folded alone
+pub first_ascii : (text : List ℕ) (b : ℕ) → 0 < length text → get_or text 0 0 ≡ b → b < 128
+    → slice_set text 0 (to_ascii_lowercase b) ≡ with_first_folded text
+first_ascii [] b p e is = absurd (omega arith)
+first_ascii (x ∷ text) b p e is =
+    let scalar : IsScalar b = low_scalar b (omega arith) in
+    let small : to_ascii_lowercase b < 128 = grind (arith, nat_tests) in
+    sym (ap (λ y. with_first_folded (y ∷ text)) e ∙ ap (λ bs. with_first_folded (bs ++ text)) (sym (encode_ascii b is))
+    ∙ with_first_folded-char b text scalar
+    ∙ ap (λ bs. bs ++ text) (ap encode_utf8 (folded_char_ascii b is) ∙ encode_ascii (to_ascii_lowercase b) small))
+
+-- one that stands in a character stays
+pub first_cont : (text : List ℕ) (b : ℕ) → 0 < length text → get_or text 0 0 ≡ b → IsCont b
+    → with_first_folded text ≡ text
+first_cont [] b p e is = absurd (omega arith)
+first_cont (x ∷ text) b p e is =
+    with_first_folded-none (x ∷ text) (cont_begins_none x text (subst IsCont (sym e) is))
 
 -- the folding has room where the character stands
 pub room_for_folding : (text : List ℕ) (c : ℕ) → first_char_of text ≡ Some c → len_utf8 (folded_char c) ≤ length text

@@ -1,25 +1,15 @@
--- A folding has as many bytes as its character.
-use Rattle.std.proofs.Common.{rules, ◌≡◌, ◌++◌, length, ap, ◌∙◌, sym, drop, arith}
-use Rattle.std.specs.Char.{encode_utf8, len_utf8}
-use Rattle.literal_folding.proofs.lemmas.Texts.{room_for_folding, with_first_folded-none, with_first_folded-some}
+-- A byte below 192 begins no character of several bytes.
+use Rattle.std.proofs.Common.{◌∙◌, ap, arith, get_or, refl, slice_set, sym}
+use Rattle.literal_folding.proofs.lemmas.Texts.{first_ascii, first_cont}
 use Rattle.literal_folding.proofs.fold.fold_first.Goals as goal
 
-pub overwrite-requires : goal.overwrite-requires
-overwrite-requires c =
-    let e : length c.as_bytes.result.now ≡ len_utf8 c.fold_char.result = search rules in
-    let first = sym c.first_char.ensures ∙ c.in-Some.is in
-    omega (arith, e, ap len_utf8 c.fold_char.ensures, room_for_folding c.args.bytes.now c.in-Some.c first)
+pub returns-in-0-to-127 : goal.returns-in-0-to-127
+returns-in-0-to-127 c =
+    let text = c.args.bytes.now in
+    ap (slice_set text 0) c.to_ascii_lowercase.ensures.value
+    ∙ first_ascii text (get_or text 0 0) c.requires refl (omega arith)
 
-pub returns-in-Some : goal.returns-in-Some
-returns-in-Some c =
-    let first = sym c.first_char.ensures ∙ c.in-Some.is in
-    let bytes : c.as_bytes.result.now ≡ encode_utf8 c.fold_char.result = search rules in
-    let len : length c.as_bytes.result.now ≡ len_utf8 c.fold_char.result = search rules in
-    c.overwrite.ensures ∙ ap (λ n. c.as_bytes.result.now ++ drop n c.args.bytes.now) len
-    ∙ ap (λ bs. bs ++ drop (len_utf8 c.fold_char.result) c.args.bytes.now) bytes
-    ∙ ap (λ d. encode_utf8 d ++ drop (len_utf8 d) c.args.bytes.now) c.fold_char.ensures
-    ∙ sym (with_first_folded-some c.args.bytes.now c.in-Some.c first)
-
-pub returns-in_default : goal.returns-in_default
-returns-in_default c =
-    sym (with_first_folded-none c.args.bytes.now (sym c.first_char.ensures ∙ c.in_default.is))
+pub returns-in-128-to-191 : goal.returns-in-128-to-191
+returns-in-128-to-191 c =
+    let text = c.args.bytes.now in
+    sym (first_cont text (get_or text 0 0) c.requires refl (omega arith, omega arith))
