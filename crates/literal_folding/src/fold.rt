@@ -89,12 +89,14 @@ fn fold_first(bytes: &mut [u8])
 fn fold_first_char(bytes: &mut [u8])
     ensures { bytes.new ≡ with_first_folded bytes.old }
 {
+    let code = first_code(bytes);
+    if fold_code(code) == code {
+        return;
+    }
     if let Some(c) = first_char(bytes) {
-        let folding = fold_char(c);
-        if folding != c {
-            let mut buffer = [0; 4];
-            overwrite(bytes, folding.encode_utf8(&mut buffer).as_bytes());
-        }
+        let mut buffer = [0; 4];
+        let folding = fold_char(c).encode_utf8(&mut buffer);
+        overwrite(bytes, folding.as_bytes());
     }
 }
 

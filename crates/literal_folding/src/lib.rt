@@ -1,4 +1,5 @@
-//! Unicode's case folding of bytes that are mostly UTF-8, by which no length and no offset changes, and searches by it.
+//! Unicode's simple case folding of bytes, where it keeps the length in UTF-8, so that no offset changes; and searches
+//! by it. Bytes that are no whole, valid character stay as they are.
 #![tactic(auto)]
 
 mod block;

@@ -25,7 +25,18 @@ use std::io::Read;
 use std::marker::Model;
 
 /// Searches for leftmost matches of any number of patterns, with Unicode's case ignored: of the folded patterns in a
-/// folded text. Contracts see the kind of match, and the folded patterns.
+/// folded text. Offsets are those in the text. Contracts see the kind of match, and the folded patterns.
+///
+/// A [`FoldedText`] is folded once, and can be searched by several searches. [`FoldedSearch::find_stream`] folds block
+/// by block, and needs no memory for the whole text.
+///
+/// ```rust
+/// let words = ["пример".as_bytes(), b"example"];
+/// let search = FoldedSearch::new(alloc, MatchKind::LeftmostFirst, words)?;
+/// let text = FoldedText::new(alloc, "Это ПРИМЕР.".as_bytes())?;
+/// let found = search.find(&text).ok_or("nothing is found")?;
+/// assert!(rt; found.pattern().as_usize() == 0 && found.range() == (7..19));
+/// ```
 #[derive(Drop)]
 pub struct FoldedSearch {
     search: Search,

@@ -153,6 +153,12 @@ begins_with text c e =
     ∙ ap (λ bs. bs ++ drop (length (encode_utf8 code)) text) (sym same)) in
     subst (λ d. BeginsWith d text) told.1 (record { is = single code both.0; split = split })
 
+pub first_char_of-code : (text : List ℕ) (c : ℕ) → first_char_of text ≡ Some c → c ≡ first_code_of text
+unfolding first_char_of
+first_char_of-code text c e =
+    let code = first_code_of text in
+    sym (tested (all_scalars (code ∷ []) && starts_with nat_eq text (encode_utf8 code)) code c e).1
+
 pub first_char_of-encode : (c : ℕ) (rest : List ℕ) → IsScalar c → first_char_of (encode_utf8 c ++ rest) ≡ Some c
 unfolding first_char_of
 first_char_of-encode c rest is =

@@ -11,8 +11,9 @@ use Rattle.std.proofs.Math.Seq.{drop-append_seam, drop-cons, take-append_seam, t
 use Rattle.std.proofs.lemmas.Str.{encode_ascii, length-encode}
 use Rattle.std.specs.Char.{IsScalar, encode_utf8, len_utf8, to_ascii_lowercase}
 use Rattle.std.specs.Str.{IsAscii, StartsWithNoChar, all_scalars, encode_utf8_all}
-use Rattle.literal_folding.specs.Folding.{NoneGoesOver, first_char_of, folded, folded_char, with_first}
+use Rattle.literal_folding.specs.Folding.{NoneGoesOver, first_char_of, first_code_of, folded, folded_char, with_first}
 use Rattle.literal_folding.specs.Folding.{with_first_folded}
+use Rattle.literal_folding.proofs.lemmas.Chars.{first_char_of-code}
 use Rattle.literal_folding.proofs.lemmas.Chars.{AreConts, IsCont, begins_with, cont_begins_none, first_char_of-encode}
 use Rattle.literal_folding.proofs.lemmas.Chars.{shape}
 use Rattle.literal_folding.proofs.lemmas.Table.{folded_char_ascii, folded_char_len, folded_char_scalar}
@@ -50,12 +51,18 @@ unfolding with_first_folded
 with_first_folded-some text c e =
     ap (λ o. with_first o text) e ∙ ap (λ n. encode_utf8 (folded_char c) ++ drop n text) (sym (folded_char_len c))
 
--- a character that is its own folding stays
-pub with_first_folded-same : (text : List ℕ) (c : ℕ) → first_char_of text ≡ Some c → folded_char c ≡ c
+-- a text stays if the number that its first bytes spell is its own folding
+pub with_first_folded-same : (text : List ℕ) → folded_char (first_code_of text) ≡ first_code_of text
     → with_first_folded text ≡ text
-with_first_folded-same text c e same =
-    with_first_folded-some text c e ∙ ap (λ d. encode_utf8 d ++ drop (len_utf8 d) text) same
-    ∙ sym (begins_with text c e).split
+with_first_folded-same text same = by_answer (first_char_of text) refl
+  where
+    by_answer : (o : Option ℕ) → first_char_of text ≡ o → with_first_folded text ≡ text
+    by_answer None e = with_first_folded-none text e
+    by_answer (Some c) e =
+        let stays : folded_char c ≡ c =
+        ap folded_char (first_char_of-code text c e) ∙ same ∙ sym (first_char_of-code text c e) in
+        with_first_folded-some text c e ∙ ap (λ d. encode_utf8 d ++ drop (len_utf8 d) text) stays
+        ∙ sym (begins_with text c e).split
 
 -- a first byte that is ASCII is folded alone
 pub first_ascii : (text : List ℕ) (b : ℕ) → 0 < length text → get_or text 0 0 ≡ b → b < 128
