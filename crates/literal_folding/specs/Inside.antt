@@ -1,0 +1,3 @@
+-- What models and private functions alone cite.
+pub mod Blocks
+pub mod Foldings

@@ -1,0 +1,3 @@
+pub mod FoldedSearchValue
+pub mod Folding
+pub mod Inside
