@@ -22,6 +22,7 @@ no_options = record {
   named = None;
   listed = None;
   color = Never;
+  line_buffered = false;
   quiet = false;
   untold = false;
   most = None;
@@ -52,14 +53,20 @@ with_letter options letter =
     else if letter == 97 || letter == 70 then Some options
     else None
 
+-- the options with what a long name asks for, and None if it is no option with neither letter nor argument
+abbrev pub with_switch : Options → List ℕ → Option Options
+with_switch options name =
+    if bytes_eq name (codes "--line-buffered") then Some (record options { line_buffered = true }) else None
+
 -- when colours are printed, where it is known whether standard output is a terminal
 abbrev pub color_for : Bool → Color → Color
 color_for is_terminal Auto = if is_terminal then Always else Never
 color_for is_terminal color = color
 
--- the options, where it is known whether standard output is a terminal
+-- the options, where it is known whether standard output is a terminal, on which each line is written at once
 abbrev pub on_output : Bool → Options → Options
-on_output is_terminal options = record options { color = color_for is_terminal options.color }
+on_output is_terminal options =
+    record options { color = color_for is_terminal options.color; line_buffered = options.line_buffered || is_terminal }
 
 -- whether colours are always printed
 abbrev pub is_always : Color → Bool

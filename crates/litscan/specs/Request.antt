@@ -3,7 +3,7 @@ use Rattle.std.specs.Prelude.{◌≡◌, ◌⊎◌, ◌<◌, ℕ, ◌+◌, ◌==
 use Rattle.std.specs.Prelude.{Option, Some, None, Result, Ok, Err, codes, if◌then◌else◌, map, nat_lt, slice_index}
 use Rattle.std.specs.Prelude.{take, unwrap_or}
 use Rattle.std.specs.List.{position}
-use Rattle.std.specs.Option.{ok_or}
+use Rattle.std.specs.Option.{is_some, ok_or}
 use Rattle.std.specs.Result.{IsOk}
 use Rattle.std.specs.Str.{bytes_eq}
 use Rattle.litscan.specs.declared.fault.Fault.{Fault}
@@ -18,7 +18,7 @@ use Rattle.litscan.specs.declared.request.Request.{Request}
 use Rattle.litscan.specs.declared.request.Source.{Source}
 use Rattle.litscan.specs.declared.request.Source.TheVariants as source
 use Rattle.litscan.specs.Options.{color_named, is_color, letter_named, no_options, number_of, takes_argument}
-use Rattle.litscan.specs.Options.{with_letter}
+use Rattle.litscan.specs.Options.{with_letter, with_switch}
 
 -- where words come from, as contracts see it: the lines of some bytes, or of a file of this name
 pub data SourceValue : Type 0 where
@@ -105,21 +105,32 @@ is_equals byte = byte == 61
 abbrev pub with_color : Color → RequestValue → RequestValue
 with_color color request = record request { options = record request.options { color = color } }
 
+-- the request with these options
+abbrev pub with_options : RequestValue → Options → RequestValue
+with_options request options = record request { options = options }
+
 -- the letter of the option with this long name, in the word that is taken
 abbrev pub letter_in : List ℕ → RequestValue → Result ℕ Fault
 letter_in name request = ok_or (letter_named name) (UnknownName request.at)
+
+-- the request with an option that has a letter, by its long name, or with what is asked for by one that has none
+abbrev pub with_lettered : Option Options → List ℕ → RequestValue → Asked
+with_lettered (Some options) name request = Ok (with_options request options)
+with_lettered None name request =
+    result_and_then (λ letter. with_letters (letter ∷ []) request) (letter_in name request)
 
 -- the request with an option by its long name
 abbrev pub with_name : List ℕ → RequestValue → Asked
 with_name name request =
     if is_color name then Ok (with_color Auto request)
-    else result_and_then (λ letter. with_letters (letter ∷ []) request) (letter_in name request)
+    else with_lettered (with_switch request.options name) name request
 
 -- the request with an option by its long name, and its argument, which it has to take
 abbrev pub with_named : List ℕ → List ℕ → RequestValue → Asked
 with_named name argument request =
     if is_color name then
     result_and_then (λ color. Ok (with_color color request)) (ok_or (color_named argument) Usage)
+    else if is_some (with_switch request.options name) then Err Usage
     else result_and_then
     (λ letter. if takes_argument letter then with_argument letter argument request else Err Usage)
     (letter_in name request)

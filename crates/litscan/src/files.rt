@@ -10,9 +10,12 @@ ghost use Rattle.litscan.specs.Files.{AreSearched, PrintsFile, PrintsText, Searc
 ghost use Rattle.litscan.specs.Printed.{CannotRead, Reads, ReadsTooMany, are_enough};
 ghost use Rattle.litscan.specs.declared.fault.Fault.TheVariants.{OutOfMemory};
 
-use crate::device::Device;
+use crate::device::{Device, ReadsAhead};
 use crate::fault::Fault;
-use crate::input::{FileId, INPUT, buffered, is_file_of, is_input, is_input_file, open, tell};
+use crate::input::{
+    FileId, INPUT, buffered, input_may_wait, is_file_of, is_input, is_input_file, may_wait, open,
+    tell,
+};
 use crate::options::Options;
 use crate::scan::{Scanned, scan};
 use literal_search::Search;
@@ -125,7 +128,7 @@ fn scan_file<W: Write>(
                 return not_read(rt, options, INPUT, ErrorKind::Deadlock, writer);
             }
         }
-        let mut reader = buffered(rt.alloc(), rt.stdin())?;
+        let mut reader = buffered(rt.alloc(), rt.stdin(), input_may_wait(rt))?;
         return scan_told(rt, search, options, INPUT, &mut reader, writer);
     }
     match open(rt, name) {
@@ -135,7 +138,8 @@ fn scan_file<W: Write>(
                     return not_read(rt, options, name, ErrorKind::Deadlock, writer);
                 }
             }
-            let mut reader = buffered(rt.alloc(), file)?;
+            let waits = may_wait(file.metadata());
+            let mut reader = buffered(rt.alloc(), file, waits)?;
             scan_told(rt, search, options, name, &mut reader, writer)
         }
         Err(ErrorKind::OutOfMemory) => Err(Fault::OutOfMemory),
@@ -144,7 +148,7 @@ fn scan_file<W: Write>(
 }
 
 /// Searches a text. If it cannot be read to its end that is told of, but for `-s`.
-fn scan_told<R: BufRead, W: Write>(
+fn scan_told<R: BufRead + ReadsAhead, W: Write>(
     rt: &HostRuntime,
     search: &Search,
     options: Options,

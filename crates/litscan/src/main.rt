@@ -55,6 +55,7 @@ Prints the lines of each FILE in which one of the words occurs, as grep -F does.
   -l, --files-with-matches      print the names of the files in which a line counts
   -L, --files-without-match     print the names of the files in which none does
   --color[=WHEN], --colour      print matches, names and numbers in colours: WHEN is always, never, or auto
+  --line-buffered               write each line at once
   -q, --quiet, --silent         print nothing
   -s, --no-messages             say nothing of files that cannot be read
   -a, -F, --text, --fixed-strings  change nothing
@@ -108,13 +109,13 @@ fn explain(rt: &HostRuntime, text: &str) -> Result<u8, Fault> {
     Ok(0)
 }
 
-/// Searches the files, and gives the status. What is printed is kept until a block is full, but on a terminal.
+/// Searches the files, and gives the status. What is printed is written when a block is full, and where the scan
+/// flushes it.
 fn search_files(rt: &HostRuntime, request: &Request) -> Result<u8, Fault> {
     let words = words_of(rt, request.sources.as_slice())?;
     let search = search_for(rt.alloc(), request.options.ignore_case, words.as_slice())?;
     let is_terminal = rt.stdout().is_terminal();
-    let room = if is_terminal { 0 } else { BLOCK };
-    let writer = BufWriter::with_capacity(rt.alloc(), room, rt.stdout()).or(Err(
+    let writer = BufWriter::with_capacity(rt.alloc(), BLOCK, rt.stdout()).or(Err(
         Fault::OutOfMemory,
     ))?;
     let mut writer = Device::new(writer);

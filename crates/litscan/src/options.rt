@@ -3,7 +3,7 @@ ghost use Rattle.std.specs.Prelude.{◌≡◌};
 ghost use Rattle.std.specs.Str.{bytes_eq};
 ghost use Rattle.litscan.specs.Options.{color_named, is_color, is_colored, is_enough, is_silent, letter_named};
 ghost use Rattle.litscan.specs.Options.{limit_of, no_options, number_of, on_output, takes_argument, with_digit};
-ghost use Rattle.litscan.specs.Options.{with_letter};
+ghost use Rattle.litscan.specs.Options.{with_letter, with_switch};
 
 /// When colours are printed.
 #[derive(Clone, Copy)]
@@ -42,6 +42,8 @@ pub struct Options {
     pub listed: Option<bool>,
     /// `--color`: when names, numbers and matches are printed in colours.
     pub color: Color,
+    /// `--line-buffered`: whether what is printed of a line is written at once.
+    pub line_buffered: bool,
     /// `-q`: whether nothing is printed.
     pub quiet: bool,
     /// `-s`: whether nothing is said of files that cannot be read.
@@ -71,6 +73,7 @@ impl Options {
             named: None,
             listed: None,
             color: Color::Never,
+            line_buffered: false,
             quiet: false,
             untold: false,
             most: None,
@@ -107,7 +110,20 @@ impl Options {
         Some(options)
     }
 
-    /// With colours always or never, by whether standard output is a terminal where that is to tell.
+    /// With what this long name asks for, if it is one of an option with neither letter nor argument.
+    pub fn with_switch(self, name: &[u8]) -> Option<Options>
+        ensures { result ≡ with_switch self name.now }
+    {
+        let mut options = self;
+        if !is_text(name, "--line-buffered") {
+            return None;
+        }
+        options.line_buffered = true;
+        Some(options)
+    }
+
+    /// With colours always or never, by whether standard output is a terminal where that is to tell. On a terminal each
+    /// line is written at once.
     pub fn on_output(self, is_terminal: bool) -> Options
         ensures { result ≡ on_output is_terminal self }
     {
@@ -119,6 +135,7 @@ impl Options {
                 Color::Never
             };
         }
+        options.line_buffered = options.line_buffered || is_terminal;
         options
     }
 

@@ -138,6 +138,10 @@ impl Request {
             self.options.color = Color::Auto;
             return Ok(());
         }
+        if let Some(options) = self.options.with_switch(name) {
+            self.options = options;
+            return Ok(());
+        }
         let letter = letter_named(name).ok_or(Fault::UnknownName(self.at))?;
         self.take_letters(alloc, &[letter])
     }
@@ -150,6 +154,9 @@ impl Request {
         if is_color(name) {
             self.options.color = color_named(argument).ok_or(Fault::Usage)?;
             return Ok(());
+        }
+        if self.options.with_switch(name).is_some() {
+            return Err(Fault::Usage);
         }
         let letter = letter_named(name).ok_or(Fault::UnknownName(self.at))?;
         if !takes_argument(letter) {

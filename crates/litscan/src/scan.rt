@@ -1,13 +1,13 @@
 //! Which lines count, and what is printed of them.
-ghost use Rattle.std.specs.Prelude.{◌≡◌, ◌<◌, ◌≤◌, ◌+◌, ◌^◌, ◌&&◌, ◌||◌, ℕ, List, ◌∷◌, [], length, min, true};
+ghost use Rattle.std.specs.Prelude.{◌≡◌, ◌≢◌, ◌<◌, ◌≤◌, ◌+◌, ◌^◌, ◌&&◌, ◌||◌, ℕ, List, ◌∷◌, [], length, min, true};
 ghost use Rattle.std.specs.Prelude.{IfErr, IfOk, MatchOption, MatchResult, OnOk};
 ghost use Rattle.std.specs.List.{count_by};
 ghost use Rattle.std.specs.Option.{IsSome};
-ghost use Rattle.std.specs.Io.KnownBytes.{Appends, Consumes};
+ghost use Rattle.std.specs.Io.KnownBytes.{Appends, Consumes, Keeps};
 ghost use Rattle.literal_base.specs.MatchValue.{MatchValue};
 ghost use Rattle.literal_base.specs.declared.packed.MatchKind.TheVariants.{LeftmostLongest};
 ghost use Rattle.litscan.specs.Asked.{AreMatches, one_asked};
-ghost use Rattle.litscan.specs.Fault.{IsReadFault, IsWriteFault};
+ghost use Rattle.litscan.specs.Fault.{IsReadFault, IsWriteFault, StopsRead};
 ghost use Rattle.litscan.specs.Lines.{lines_of, with_feed};
 ghost use Rattle.litscan.specs.Inside.Passed.{HasWord, Takes, TakesNext, lines_read};
 ghost use Rattle.litscan.specs.Options.{is_colored, is_silent, limit_of};
@@ -18,7 +18,7 @@ ghost use Rattle.litscan.specs.Printed.{printed_part};
 
 use crate::asked::{has_asked, next_asked};
 use crate::color::{MATCH, NAME, print_colon, print_colored, print_number};
-use crate::device::Device;
+use crate::device::{Device, ReadsAhead, flush_before_wait, flush_line};
 use crate::fault::Fault;
 use crate::options::{Options, is_enough};
 use crate::passed::Passed;
@@ -40,7 +40,7 @@ pub struct Scanned {
 
 /// Reads a text, prints what is asked for under this name, and says how many of its lines count. No more is read once
 /// enough count. Where a read fails, what was read before is scanned.
-pub fn scan<R: BufRead, W: Write>(
+pub fn scan<R: BufRead + ReadsAhead, W: Write>(
     alloc: Global,
     search: &Search,
     options: Options,
@@ -62,6 +62,7 @@ pub fn scan<R: BufRead, W: Write>(
 {
     let scanned = scan_lines(alloc, search, options, name, reader, writer)?;
     print_behind(options, name, scanned.count, writer)?;
+    flush_line(options, writer)?;
     Ok(scanned)
 }
 
@@ -122,7 +123,7 @@ fn print_name<W: Write>(options: Options, name: &[u8], writer: &mut Device<W>) -
 }
 
 /// Reads a text until enough lines count, prints what is asked for of those that do, and says how many these are.
-fn scan_lines<R: BufRead, W: Write>(
+fn scan_lines<R: BufRead + ReadsAhead, W: Write>(
     alloc: Global,
     search: &Search,
     options: Options,
@@ -152,7 +153,7 @@ fn scan_lines<R: BufRead, W: Write>(
                 failure: None,
             });
         }
-        let next = match next_line(search, options, gap, reader, &mut line) {
+        let next = match next_line(search, options, gap, reader, &mut line, writer) {
             Ok(next) => next,
             Err(fault) => return failed_behind(count, fault, reader.failure()),
         };
@@ -232,52 +233,59 @@ struct Next {
 
 /// Reads the next line that may count into the line buffer. It passes over lines that do not count, as far as these are
 /// read ahead.
-fn next_line<R: BufRead>(
+fn next_line<R: BufRead + ReadsAhead, W: Write>(
     search: &Search,
     options: Options,
     gap: Gap,
     reader: &mut Device<R>,
     line: &mut Vec<u8>,
+    writer: &mut Device<W>,
 ) -> Result<Next, Fault>
     ensures takes { IfOk result (λ next. TakesNext search.now options next line.new.items
         (R.remaining reader.old.inner) (R.remaining reader.new.inner)) }
-    ensures error { IfErr result (IsReadFault reader.new.failure) }
+    ensures kept { Keeps (W.contents writer.old.inner) (W.contents writer.new.inner) }
+    ensures error { IfErr result (StopsRead reader.new.failure writer.new.failure) }
 {
-    let passed = pass_lines(search, options, gap, reader, line)?;
+    let passed = pass_lines(search, options, gap, reader, line, writer)?;
     if passed.next.is_some() {
         return Ok(Next { passed, fed: true });
     }
+    flush_before_wait(reader, writer)?;
     let fed = reader.read_line(line)?;
     Ok(Next { passed, fed })
 }
 
 /// Passes over lines without a match, if these do not count and the last gap was long.
-fn pass_lines<R: BufRead>(
+fn pass_lines<R: BufRead + ReadsAhead, W: Write>(
     search: &Search,
     options: Options,
     gap: Gap,
     reader: &mut Device<R>,
     line: &mut Vec<u8>,
+    writer: &mut Device<W>,
 ) -> Result<Passed, Fault>
     ensures takes { IfOk result (λ passed. (text : List ℕ) × Takes search.now passed line.new.items text
         × Consumes (R.remaining reader.old.inner) (R.remaining reader.new.inner) text) }
     ensures none { IfOk result (λ passed. options.others ≡ true → passed.lines ≡ 0) }
-    ensures error { IfErr result (IsReadFault reader.new.failure) }
+    ensures kept { Keeps (W.contents writer.old.inner) (W.contents writer.new.inner) }
+    ensures error { IfErr result (StopsRead reader.new.failure writer.new.failure) }
 {
     if options.others || !gap.is_long() {
         return Ok(Passed::none());
     }
+    flush_before_wait(reader, writer)?;
     reader.pass_lines(search, line)
 }
 
-/// What a scan found whose read failed so. Memory that is refused ends all.
+/// What a scan found whose read failed so. Any other fault ends all.
 fn failed_behind(count: u64, fault: Fault, failure: Option<ErrorKind>) -> Result<Scanned, Fault>
-    ensures { MatchResult result (λ scanned. scanned ≡ record { count = count; failure = failure })
-        (λ error. (error ≡ fault) × (fault ≡ Fault.OutOfMemory)) }
+    ensures { MatchResult result
+        (λ scanned. (scanned ≡ record { count = count; failure = failure }) × (fault ≡ Fault.ReadFailed))
+        (λ error. (error ≡ fault) × (fault ≢ Fault.ReadFailed)) }
 {
     match fault {
-        Fault::OutOfMemory => Err(fault),
-        _ => Ok(Scanned { count, failure }),
+        Fault::ReadFailed => Ok(Scanned { count, failure }),
+        _ => Err(fault),
     }
 }
 
@@ -322,7 +330,9 @@ fn take_read<W: Write>(
         return Ok(0);
     }
     let known = next.passed.next.is_some();
-    take_line(known, search, options, name, number, offset, line, writer)
+    let taken = take_line(known, search, options, name, number, offset, line, writer)?;
+    flush_line(options, writer)?;
+    Ok(taken)
 }
 
 /// Prints what is asked for of a line if it counts, unless no line is printed. Answers 1 if it counts,

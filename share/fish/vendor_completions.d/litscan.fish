@@ -16,6 +16,7 @@ complete -c litscan -s l -l files-with-matches -d 'print the names of the files 
 complete -c litscan -s L -l files-without-match -d 'print the names of the files without one'
 complete -c litscan -l color -f -a 'always never auto' -d 'print in colors'
 complete -c litscan -l colour -f -a 'always never auto' -d 'print in colors'
+complete -c litscan -l line-buffered -d 'write each line at once'
 complete -c litscan -s q -l quiet -l silent -d 'print nothing'
 complete -c litscan -s s -l no-messages -d 'print no messages about files that cannot be read'
 complete -c litscan -s a -l text -d 'no effect'

@@ -1,14 +1,15 @@
-use Rattle.std.proofs.Common.{◌≡◌, ◌≢◌, ◌+◌, ◌++◌, ◌∷◌, [], ◌∙◌, ℕ, List, Result, Ok, Err, IfOk, Some, None, codes}
+use Rattle.std.proofs.Common.{◌≡◌, ◌≢◌, ◌+◌, ◌||◌, ◌++◌, ◌∷◌, [], ◌∙◌, ℕ, List, Result, Ok, Err, IfOk, Some, None}
+use Rattle.std.proofs.Common.{codes}
 use Rattle.std.proofs.Common.{append-nil, append_assoc, ap, arith, false, inl, inr, length, nat_lt, refl, subst}
 use Rattle.std.proofs.Common.{sym, true}
 use Rattle.std.proofs.lemmas.Result.{IfOk-weaker}
 use Rattle.std.specs.Str.{bytes_eq}
-use Rattle.std.proofs.lemmas.Bool.{cases_Bool, cond-false, lt-ltb, ne_eqb, or_cases}
+use Rattle.std.proofs.lemmas.Bool.{cases_Bool, cond-false, lt-ltb, ne_eqb}
 use Rattle.std.proofs.lemmas.Slice.Eq.{bytes_eq-Decides}
 use Rattle.std.specs.Option.{ok_or}
 use Rattle.litscan.specs.Options.{is_color, letter_named, takes_argument, with_letter}
 use Rattle.litscan.specs.Request.{Asked, RequestValue, asked_from, result_and_then, with_any, with_file}
-use Rattle.litscan.specs.Request.{with_letters, with_next}
+use Rattle.litscan.specs.Request.{with_lettered, with_letters, with_next}
 use Rattle.litscan.specs.declared.fault.Fault.{Fault}
 use Rattle.litscan.specs.declared.fault.Fault.TheVariants.{UnknownLetter, UnknownName}
 use Rattle.litscan.specs.declared.options.Options.{Options}
@@ -53,24 +54,24 @@ returns-clause-joined c = λ letter second more request none other others.
     in_a_word second more other (Ok request) = sym (letters_of second more request other)
     in_a_word second more other (Err fault) = refl
 
--- a name that has a letter is not that of the option for colours
-not_color : (name : List ℕ) (letter : ℕ) → letter_named name ≡ Some letter → is_color name ≡ false
-not_color name letter is =
-    elim (cases_Bool (is_color name)) [
-      | inl color ↦
-          absurd (elim (or_cases (bytes_eq name (codes "--color")) (bytes_eq name (codes "--colour")) color) [
-            | inl one ↦ has_none (codes "--color") ((bytes_eq-Decides name (codes "--color")).0 one) refl
-            | inr other ↦ has_none (codes "--colour") ((bytes_eq-Decides name (codes "--colour")).0 other) refl
-          ])
+-- a name that has a letter is not one that has none
+not_named : (name known : List ℕ) (letter : ℕ) → letter_named name ≡ Some letter → letter_named known ≡ None
+    → bytes_eq name known ≡ false
+not_named name known letter is none =
+    elim (cases_Bool (bytes_eq name known)) [
+      | inl same ↦
+          let no_letter : Some letter ≡ None =
+          sym is ∙ ap letter_named ((bytes_eq-Decides name known).0 same) ∙ none in absurd (cc)
       | inr other ↦ other
     ]
-  where
-    has_none : (known : List ℕ) → name ≡ known → letter_named known ≡ None → ⊥
-    has_none known same none = let no_letter : Some letter ≡ None = sym is ∙ ap letter_named same ∙ none in absurd (cc)
 
 pub returns-clause-named : goal.returns-clause-named
 returns-clause-named c = λ name letter request is.
-    cond-false (is_color name) _ _ (not_color name letter is)
+    let color = not_named name (codes "--color") letter is refl in
+    let colour = not_named name (codes "--colour") letter is refl in
+    let buffered = not_named name (codes "--line-buffered") letter is refl in
+    cond-false (is_color name) _ _ (ap (λ b. b || bytes_eq name (codes "--colour")) color ∙ colour)
+    ∙ ap (λ found. with_lettered found name request) (cond-false (bytes_eq name (codes "--line-buffered")) _ _ buffered)
     ∙ ap (λ found. result_and_then (λ l. with_letters (l ∷ []) request) (ok_or found (UnknownName request.at))) is
 
 -- the files behind two dashes

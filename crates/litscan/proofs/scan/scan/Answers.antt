@@ -1,5 +1,5 @@
-use Rattle.std.proofs.Common.{◌++◌, ap, rules}
-use Rattle.std.proofs.KnownBytes.{Appends-trans}
+use Rattle.std.proofs.Common.{◌++◌, ap}
+use Rattle.std.proofs.KnownBytes.{Appends-kept, Appends-trans}
 use Rattle.litscan.specs.Printed.{printed_behind}
 use Rattle.litscan.proofs.scan.scan.Goals as goal
 
@@ -12,7 +12,9 @@ returns-clause-scanned g c =
       read.1 ++ behind,
       read.2,
       read.3,
-      search (rules, Appends-trans _ _ _ read.1 behind read.4 c.in_ok-print_behind.ensures.printed),
+      Appends-kept _ _ _ (read.1 ++ behind)
+          (Appends-trans _ _ _ read.1 behind read.4 c.in_ok-print_behind.ensures.printed)
+          c.in_ok-flush_line.ensures.kept,
       (
         read.1,
         read.5,
