@@ -10,8 +10,8 @@ use Rattle.std.specs.declared.io.ErrorKind.{ErrorKind}
 use Rattle.std.specs.declared.io.ErrorKind.TheVariants as kind
 use Rattle.litscan.specs.Asked.{AreMatches, one_asked}
 use Rattle.litscan.specs.Fault.{IsReadFault, IsWriteFault}
-use Rattle.litscan.specs.Lines.{lines_of, with_feed}
-use Rattle.litscan.specs.Options.{is_colored, is_enough, is_silent, limit_of}
+use Rattle.litscan.specs.Lines.{with_feed}
+use Rattle.litscan.specs.Options.{is_colored, is_enough, limit_of}
 use Rattle.litscan.specs.declared.fault.Fault.{Fault}
 use Rattle.litscan.specs.declared.fault.Fault.TheVariants.{OutOfMemory}
 use Rattle.litscan.specs.declared.options.Options.{Options}
@@ -76,9 +76,9 @@ color_off options = if is_colored options then 27 ∷ codes "[m" ++ 27 ∷ codes
 abbrev pub in_color : Options → List ℕ → List ℕ → List ℕ
 in_color options color bytes = color_on options color ++ bytes ++ color_off options
 
--- a colon, in cyan
+-- a colon, or a dash if that is asked for, in cyan
 abbrev pub printed_colon : Options → List ℕ
-printed_colon options = in_color options (codes "36") (codes ":")
+printed_colon options = in_color options (codes "36") (if options.dashed then codes "-" else codes ":")
 
 -- a match, in bold red
 abbrev pub printed_match : Options → List ℕ → List ℕ
@@ -165,10 +165,3 @@ abbrev pub printed_behind : Option Bool → Options → List ℕ → ℕ → Lis
 printed_behind (Some found) options name count = if options.quiet then [] else printed_listed found options name count
 printed_behind None options name count =
     if options.count && not options.quiet then printed_name options name ++ with_feed (decimal count) else []
-
--- what is printed of a file of this name that has this text
-abbrev pub Prints : SearchValue → Options → List ℕ → List ℕ → List ℕ → Type 0
-Prints search options name text out = (lines : List ℕ)
-    × PrintsUnlessSilent (is_silent options) search options name 1 0 (lines_of text) lines
-    × (out ≡ lines
-    ++ printed_behind options.listed options name (count_by (counts search options) (lines_of text)))

@@ -8,6 +8,7 @@ ghost use Rattle.std.specs.Io.KnownBytes.{Appends, Consumes, IsAtEnd, Keeps};
 ghost use Rattle.litscan.specs.Fault.{IsReadFault, IsWriteFault, write_fault};
 ghost use Rattle.litscan.specs.Lines.{HasNoFeed, with_feed};
 ghost use Rattle.litscan.specs.Inside.Passed.{Takes};
+ghost use Rattle.litscan.specs.declared.fault.Fault.TheVariants.{OutOfMemory};
 
 use crate::fault::Fault;
 use crate::options::Options;
@@ -124,6 +125,18 @@ impl<R: BufRead> Device<R> {
         };
         self.inner.consume(passed.len());
         Ok(passed)
+    }
+
+    /// The fault that ends a scan. Memory that is refused for a line counts as a read that failed.
+    pub fn stopped_by(&mut self, fault: Fault) -> Fault
+        ensures inner { self.new.inner ≡ self.old.inner }
+        ensures same { result ≡ fault }
+        ensures read { fault ≡ OutOfMemory → IsReadFault self.new.failure fault }
+    {
+        if fault == Fault::OutOfMemory {
+            self.failure = Some(ErrorKind::OutOfMemory);
+        }
+        fault
     }
 
     /// What [`Device::pass_lines`] answers if a read fails. After an interrupted read, it passes over nothing.

@@ -1,6 +1,7 @@
 //! What follows from the definitions.
 ghost use Rattle.std.specs.Prelude.{◌≡◌, ◌≢◌, ◌+◌, ◌++◌, ◌∷◌, [], ◌<◌, ◌↔◌, ℕ, List, IfOk, Ok, Some, codes, false};
 ghost use Rattle.std.specs.Prelude.{length, true};
+ghost use Rattle.std.specs.Char.{is_ascii_digit};
 ghost use Rattle.std.specs.List.{flat_map};
 ghost use Rattle.literal_base.specs.Occurs.{AreEqualBytes, one_occurs, pattern_at, rest_from};
 ghost use Rattle.literal_search.specs.SearchValue.{SearchValue};
@@ -45,11 +46,12 @@ pub fn lines_are_asked_for()
         × AreEqualBytes search.ignore_case line (pattern_at search.query.patterns i)) }
 {}
 
-/// Letters that are joined ask for what each asks for in a word of its own, where the first takes no argument. A long
+/// Letters that are joined ask for what each asks for in a word of its own, where the first takes no argument and is no
+/// digit. A long
 /// name asks for what its letter asks for. Behind two dashes each word is a file, whatever it is.
 pub fn options_are_asked_for()
     ensures joined { (letter next : ℕ) (more : List ℕ) (request : RequestValue) → takes_argument letter ≡ false
-        → letter ≢ 45 → next ≢ 45 → with_any (45 ∷ letter ∷ next ∷ more) request
+        → is_ascii_digit letter ≡ false → letter ≢ 45 → next ≢ 45 → with_any (45 ∷ letter ∷ next ∷ more) request
         ≡ result_and_then (with_any (45 ∷ next ∷ more)) (with_any (45 ∷ letter ∷ []) request) }
     ensures named { (name : List ℕ) (letter : ℕ) (request : RequestValue) → letter_named name ≡ Some letter
         → with_name name request ≡ with_letters (letter ∷ []) request }

@@ -4,14 +4,17 @@
 mod args;
 mod asked;
 mod color;
+mod context;
 mod device;
 mod fault;
 mod files;
 mod input;
 mod laws;
 mod lines;
+mod near;
 mod options;
 mod passed;
+mod printing;
 mod request;
 mod scan;
 mod words;
@@ -46,6 +49,11 @@ Prints the lines of each FILE in which one of the words occurs, as grep -F does.
   -w, --word-regexp             take words only where no letter, digit or _ is next to them
   -x, --line-regexp             take lines only that are a word as a whole
   -m, --max-count=N             read no more of a file once N lines count
+  -A, --after-context=N         print N lines after each line that counts
+  -B, --before-context=N        print N lines before each line that counts
+  -C, --context=N               print N lines before and after each line that counts, as -N does
+  --group-separator=SEP         print SEP between groups of lines that are not next to each other, in place of --
+  --no-group-separator          print nothing between groups of lines
   -b, --byte-offset             print the offset of each line, or match, in the file
   -n, --line-number             print the number of each line
   -H, --with-filename           print the name of the file in front of each line
@@ -123,6 +131,7 @@ fn search_files(rt: &HostRuntime, request: &Request) -> Result<u8, Fault> {
         rt,
         &search,
         request.options.on_output(is_terminal),
+        request.separator(),
         request.files.as_slice(),
         file_not_read(rt, request.options),
         &mut writer,
