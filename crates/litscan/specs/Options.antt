@@ -20,6 +20,7 @@ no_options = record {
   alone = false;
   whole = false;
   named = None;
+  zero = false;
   listed = None;
   color = Never;
   line_buffered = false;
@@ -44,7 +45,7 @@ with_digit_of_lines options digit =
     record options { around = Some (min (number * 10 + (digit - 48)) (2 ^ 64 - 1)); in_number = true }
 
 -- the options with what a letter asks for, and None if it is no option without argument. The letters are in turn: b, c,
--- h, H, i and y, l, L, n, o, q, s, v, V, w, x, ?, and a and F, which change nothing
+-- h, H, i and y, l, L, n, o, q, s, v, V, w, x, Z, ?, and a, F, u and U, which change nothing
 abbrev pub with_plain_letter : Options → ℕ → Option Options
 with_plain_letter options letter =
     if letter == 98 then Some (record options { offsets = true })
@@ -62,8 +63,9 @@ with_plain_letter options letter =
     else if letter == 86 then Some (record options { version = true })
     else if letter == 119 then Some (record options { alone = true })
     else if letter == 120 then Some (record options { whole = true })
+    else if letter == 90 then Some (record options { zero = true })
     else if letter == 63 then Some (record options { help = true })
-    else if letter == 97 || letter == 70 then Some options
+    else if letter == 97 || letter == 70 || letter == 117 || letter == 85 then Some options
     else None
 
 -- the options behind a letter that is no digit
@@ -81,6 +83,7 @@ abbrev pub with_switch : Options → List ℕ → Option Options
 with_switch options name =
     if bytes_eq name (codes "--line-buffered") then Some (record options { line_buffered = true })
     else if bytes_eq name (codes "--no-group-separator") then Some (record options { separated = false })
+    else if bytes_eq name (codes "--no-ignore-case") then Some (record options { ignore_case = false })
     else None
 
 -- whether this is the long name of the option for separators of groups
@@ -142,6 +145,7 @@ abbrev pub letter_named : List ℕ → Option ℕ
 letter_named name =
     if bytes_eq name (codes "--after-context") then Some 65
     else if bytes_eq name (codes "--before-context") then Some 66
+    else if bytes_eq name (codes "--binary") then Some 85
     else if bytes_eq name (codes "--byte-offset") then Some 98
     else if bytes_eq name (codes "--context") then Some 67
     else if bytes_eq name (codes "--count") then Some 99
@@ -157,11 +161,13 @@ letter_named name =
     else if bytes_eq name (codes "--max-count") then Some 109
     else if bytes_eq name (codes "--no-filename") then Some 104
     else if bytes_eq name (codes "--no-messages") then Some 115
+    else if bytes_eq name (codes "--null") then Some 90
     else if bytes_eq name (codes "--only-matching") then Some 111
     else if bytes_eq name (codes "--quiet") then Some 113
     else if bytes_eq name (codes "--regexp") then Some 101
     else if bytes_eq name (codes "--silent") then Some 113
     else if bytes_eq name (codes "--text") then Some 97
+    else if bytes_eq name (codes "--unix-byte-offsets") then Some 117
     else if bytes_eq name (codes "--version") then Some 86
     else if bytes_eq name (codes "--with-filename") then Some 72
     else if bytes_eq name (codes "--word-regexp") then Some 119

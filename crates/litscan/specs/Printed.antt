@@ -88,11 +88,17 @@ printed_match options bytes = in_color options (codes "01;31") bytes
 abbrev pub printed_number : Options → ℕ → List ℕ
 printed_number options number = in_color options (codes "32") (decimal number) ++ printed_colon options
 
--- what stands in front of what is printed of a file of this name: the name, in magenta, and a colon, if that is asked
--- for
+-- what stands in front of what is printed of a file of this name: the name, in magenta, and a colon, or a zero byte if
+-- that is asked for
 abbrev pub printed_name : Options → List ℕ → List ℕ
 printed_name options name =
-    if unwrap_or options.named false then in_color options (codes "35") name ++ printed_colon options else []
+    if unwrap_or options.named false then
+    in_color options (codes "35") name ++ (if options.zero then 0 ∷ [] else printed_colon options)
+    else []
+
+-- a name as a line, in magenta, or with a zero byte in place of the line feed if that is asked for
+abbrev pub printed_name_alone : Options → List ℕ → List ℕ
+printed_name_alone options name = in_color options (codes "35") name ++ (if options.zero then 0 ∷ [] else 10 ∷ [])
 
 -- what stands in front of a line or match: the name of its file, the number of its line, and its offset in the text,
 -- where these are asked for, each with a colon
@@ -156,9 +162,9 @@ PrintsUnlessSilent false search options name number offset lines out =
 -- the name of a file as a line, where a line counts and such files are asked for, or where none does and others are
 abbrev pub printed_listed : Bool → Options → List ℕ → ℕ → List ℕ
 printed_listed true options name count =
-    if nat_lt 0 count then with_feed (in_color options (codes "35") name) else []
+    if nat_lt 0 count then printed_name_alone options name else []
 printed_listed false options name count =
-    if nat_lt 0 count then [] else with_feed (in_color options (codes "35") name)
+    if nat_lt 0 count then [] else printed_name_alone options name
 
 -- what is printed behind the lines of a file, so many of which count: nothing, its name, or this number
 abbrev pub printed_behind : Option Bool → Options → List ℕ → ℕ → List ℕ

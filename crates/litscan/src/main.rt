@@ -45,6 +45,7 @@ Prints the lines of each FILE in which one of the words occurs, as grep -F does.
   -e, --regexp=WORDS            look for these words
   -f, --file=FILE               look for the words in this file
   -i, -y, --ignore-case         ignore ASCII case
+  --no-ignore-case              do not ignore it
   -v, --invert-match            take the lines that else would not count
   -w, --word-regexp             take words only where no letter, digit or _ is next to them
   -x, --line-regexp             take lines only that are a word as a whole
@@ -58,6 +59,7 @@ Prints the lines of each FILE in which one of the words occurs, as grep -F does.
   -n, --line-number             print the number of each line
   -H, --with-filename           print the name of the file in front of each line
   -h, --no-filename             print no name of a file
+  -Z, --null                    print a zero byte after the name of a file, in place of a colon or a line feed
   -o, --only-matching           print the matches in these lines
   -c, --count                   print how many lines count
   -l, --files-with-matches      print the names of the files in which a line counts
@@ -66,7 +68,7 @@ Prints the lines of each FILE in which one of the words occurs, as grep -F does.
   --line-buffered               write each line at once
   -q, --quiet, --silent         print nothing
   -s, --no-messages             say nothing of files that cannot be read
-  -a, -F, --text, --fixed-strings  change nothing
+  -a, -F, -u, -U, --text, --fixed-strings, --unix-byte-offsets, --binary  change nothing
   -V, --version                 print the version of litscan
   --help                        print this
 

@@ -40,6 +40,8 @@ pub struct Options {
     pub whole: bool,
     /// `-H`, `-h`: whether the name of its file is printed in front of what is printed, if that is asked for.
     pub named: Option<bool>,
+    /// `-Z`: whether a zero byte stands behind the name of a file, in place of a colon or a line feed.
+    pub zero: bool,
     /// `-l`, `-L`: whether the names of the files in which a line counts are printed, or of the others, in place of
     /// lines.
     pub listed: Option<bool>,
@@ -86,6 +88,7 @@ impl Options {
             alone: false,
             whole: false,
             named: None,
+            zero: false,
             listed: None,
             color: Color::Never,
             line_buffered: false,
@@ -156,8 +159,9 @@ impl Options {
             b'V' => options.version = true,
             b'w' => options.alone = true,
             b'x' => options.whole = true,
+            b'Z' => options.zero = true,
             b'?' => options.help = true,
-            b'a' | b'F' => {}
+            b'a' | b'F' | b'u' | b'U' => {}
             _ => return None,
         }
         Some(options)
@@ -174,6 +178,10 @@ impl Options {
         }
         if is_text(name, "--no-group-separator") {
             options.separated = false;
+            return Some(options);
+        }
+        if is_text(name, "--no-ignore-case") {
+            options.ignore_case = false;
             return Some(options);
         }
         None
@@ -306,6 +314,7 @@ pub fn letter_named(name: &[u8]) -> Option<u8>
     match name {
         _ if is_text(name, "--after-context") => Some(b'A'),
         _ if is_text(name, "--before-context") => Some(b'B'),
+        _ if is_text(name, "--binary") => Some(b'U'),
         _ if is_text(name, "--byte-offset") => Some(b'b'),
         _ if is_text(name, "--context") => Some(b'C'),
         _ if is_text(name, "--count") => Some(b'c'),
@@ -321,11 +330,13 @@ pub fn letter_named(name: &[u8]) -> Option<u8>
         _ if is_text(name, "--max-count") => Some(b'm'),
         _ if is_text(name, "--no-filename") => Some(b'h'),
         _ if is_text(name, "--no-messages") => Some(b's'),
+        _ if is_text(name, "--null") => Some(b'Z'),
         _ if is_text(name, "--only-matching") => Some(b'o'),
         _ if is_text(name, "--quiet") => Some(b'q'),
         _ if is_text(name, "--regexp") => Some(b'e'),
         _ if is_text(name, "--silent") => Some(b'q'),
         _ if is_text(name, "--text") => Some(b'a'),
+        _ if is_text(name, "--unix-byte-offsets") => Some(b'u'),
         _ if is_text(name, "--version") => Some(b'V'),
         _ if is_text(name, "--with-filename") => Some(b'H'),
         _ if is_text(name, "--word-regexp") => Some(b'w'),

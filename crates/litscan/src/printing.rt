@@ -217,5 +217,8 @@ pub fn print_name<W: Write>(
         return Ok(());
     }
     print_colored(options, NAME, name, writer)?;
+    if options.zero {
+        return writer.write_all(b"\0");
+    }
     print_colon(options, writer)
 }

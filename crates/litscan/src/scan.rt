@@ -132,7 +132,7 @@ fn print_listed<W: Write>(
         return Ok(());
     }
     print_colored(options, NAME, name, writer)?;
-    writer.write_all(b"\n")
+    writer.write_all(if options.zero { b"\0" } else { b"\n" })
 }
 
 /// Reads a text until enough lines count, prints what is asked for of those that do, and says how many these are.

@@ -1,12 +1,13 @@
 -- Groups of lines that are printed one line after another. For `context` and `near`.
 use Rattle.std.proofs.Common.{◌≡◌, ◌+◌, ◌-◌, ◌<◌, ◌≤◌, ◌&&◌, ◌||◌, ◌++◌, ◌∷◌, ◌∙◌, [], Bool, List, ℕ, true, false}
-use Rattle.std.proofs.Common.{ap, append_assoc, arith, cond, length, map, nat_lt, refl, subst, suc, sym, take, zero}
-use Rattle.std.proofs.lemmas.Bool.{lt-ltb}
+use Rattle.std.proofs.Common.{◌==◌, ap, append_assoc, arith, cond, length, map, nat_lt, not, refl, slice_index_or}
+use Rattle.std.proofs.Common.{subst, suc, sym, take, zero}
+use Rattle.std.proofs.lemmas.Bool.{lt-ltb, ne_eqb}
 use Rattle.std.proofs.lemmas.List.{map-append}
 use Rattle.std.specs.List.{flat_map, list_any}
 use Rattle.literal_search.specs.SearchValue.{SearchValue}
-use Rattle.litscan.specs.Context.{Mark, PrintsGroups, PrintsMarked, counted, is_printed, left_out, mark_by, near}
-use Rattle.litscan.specs.Context.{lines_after, lines_before, printed_separator}
+use Rattle.litscan.specs.Context.{Mark, PrintsGroups, PrintsMarked, counted, is_printed, left_out, lines_after}
+use Rattle.litscan.specs.Context.{lines_before, mark_by, near, printed_between, printed_separator}
 use Rattle.litscan.specs.Inside.Groups.{GoesOn, IsWell, PrintsFrom, held_of, marks_from, next_number, next_offset}
 use Rattle.litscan.specs.Inside.Groups.{none_count}
 use Rattle.litscan.specs.Lines.{with_feed}
@@ -133,6 +134,86 @@ module _ (search : SearchValue) (options : Options) (separator name : List ℕ) 
       (mark_by false b ∷ marks_from before after 0 (none_count more)) []) (sym (none_at_all more before))
       (one_left_out any apart number offset line more (marks_from before after 0 (none_count more)) []
       (none_left before after any true (number + 1) (offset + length line + 1) more))
+
+-- whether the line in front of the one at a place is left out
+abbrev pub behind_gap : Bool → List Mark → ℕ → Bool
+behind_gap apart marks zero = apart
+behind_gap apart [] (suc n) = apart
+behind_gap apart (mark ∷ marks) (suc n) = behind_gap (not (is_printed mark)) marks n
+
+behind_mark : (apart : Bool) (marks : List Mark) (n : ℕ) → n < length marks
+    → behind_gap apart marks (suc n) ≡ not (is_printed (slice_index_or marks n left_out))
+behind_mark apart [] n below = absurd (omega (arith, below))
+behind_mark apart (mark ∷ marks) zero below = refl
+behind_mark apart (mark ∷ marks) (suc n) below =
+    behind_mark (not (is_printed mark)) marks n (omega (arith, below))
+
+-- one line among others
+pub groups_in_turn : (search : SearchValue) (options : Options) (separator name : List ℕ) (any apart : Bool)
+    (number offset at behind : ℕ) (front more : List (List ℕ)) (marks : List Mark) (line out : List ℕ)
+    → at ≡ length front + number → behind ≡ length (flat_map with_feed front) + offset
+    → PrintsGroups search options separator name any apart number offset (front ++ line ∷ more) marks out
+    → let mark = slice_index_or marks (length front) left_out in
+    (before part after : List ℕ) × (length front < length marks)
+    × (out ≡ before ++ (printed_between options separator (any || list_any is_printed (take (length front) marks))
+    (behind_gap apart marks (length front)) mark ++ (part ++ after)))
+    × PrintsMarked mark search options name at behind line part
+groups_in_turn search options separator name any apart number offset at behind [] more [] line out at_is behind_is
+    printed =
+    absurd printed
+groups_in_turn search options separator name any apart number offset at behind [] more (mark ∷ marks) line out at_is
+    behind_is printed =
+    let number_is : number ≡ at = omega arith in
+    let offset_is : offset ≡ behind = omega arith in (
+      [],
+      printed.0,
+      printed.1,
+      omega arith,
+      subst (λ b. out ≡ printed_between options separator b apart mark ++ (printed.0 ++ printed.1)) (sym (or_none any))
+          printed.4,
+      subst (λ n. PrintsMarked mark search options name at n line printed.0) offset_is
+          (subst (λ n. PrintsMarked mark search options name n offset line printed.0) number_is printed.2),
+    )
+groups_in_turn search options separator name any apart number offset at behind (first ∷ front) more [] line out at_is
+    behind_is printed =
+    absurd printed
+groups_in_turn search options separator name any apart number offset at behind (first ∷ front) more (mark ∷ marks)
+    line out at_is behind_is printed =
+    let size = length-feeds first front in
+    let others = groups_in_turn search options separator name (any || is_printed mark) (not (is_printed mark))
+    (number + 1) (offset + length first + 1) at behind front more marks line printed.1 (omega arith)
+    (omega (arith, behind_is, size)) printed.3 in
+    let here : List ℕ = printed_between options separator any apart mark ++ printed.0 in
+    let next = λ (b : Bool). printed_between options separator b
+    (behind_gap (not (is_printed mark)) marks (length front))
+    (slice_index_or marks (length front) left_out) ++ (others.1 ++ others.2) in (
+      here ++ others.0,
+      others.1,
+      others.2,
+      omega (arith, others.3),
+      printed.4 ∙ sym (append_assoc (printed_between options separator any apart mark) printed.0 printed.1)
+          ∙ ap (λ l. here ++ l) others.4
+          ∙ sym (append_assoc here others.0
+          (next ((any || is_printed mark) || list_any is_printed (take (length front) marks))))
+          ∙ ap (λ b. (here ++ others.0) ++ next b)
+          (or_assoc any (is_printed mark) (list_any is_printed (take (length front) marks))),
+      others.5,
+    )
+  where
+    or_assoc : (a b c : Bool) → ((a || b) || c) ≡ (a || (b || c))
+    or_assoc true b c = refl
+    or_assoc false b c = refl
+
+-- the same, where the line in front of the first is left out
+pub groups_at_front : (marks : List Mark) (n : ℕ) → n < length marks
+    → behind_gap true marks n ≡ (n == 0 || not (is_printed (slice_index_or marks (n - 1) left_out)))
+groups_at_front marks zero below = refl
+groups_at_front marks (suc n) below =
+    let less : suc n - 1 ≡ n = omega arith in
+    let some : (suc n == 0) ≡ false = ne_eqb (suc n) 0 (λ is. omega (arith, is)) in
+    behind_mark true marks n (omega (arith, below))
+    ∙ sym (ap (λ b. b || not (is_printed (slice_index_or marks (suc n - 1) left_out))) some
+    ∙ ap (λ m. not (is_printed (slice_index_or marks m left_out))) less)
 
 -- the new state is the old one without the first line that is held
 pub record Steps (old new : Context) (line : List ℕ) : Type 0 where

@@ -216,7 +216,7 @@ module _ {search : SearchValue} {options : Options} {separator : List ℕ} {any 
         → new.due ≡ (if to_count then lines_after options else context.due - 1) → IsWell options new
         → Appends now next part → GoesOn search options separator name context new line to_count part
         → NearSoFar search options separator any name written next (seen ++ line ∷ []) (cs ++ to_count ∷ [])
-      (out ++ part)
+        (out ++ part)
         (count + one_if to_count) new
     near_more {next} line part to_count new is some due well append goes_on = record {
       parts = one_part_more so_far.parts line to_count new.due is some due;

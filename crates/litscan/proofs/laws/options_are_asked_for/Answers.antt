@@ -94,11 +94,13 @@ returns-clause-named c = λ name letter request is.
     let separator = not_named name (codes "--group-separator") letter is refl in
     let buffered = not_named name (codes "--line-buffered") letter is refl in
     let unseparated = not_named name (codes "--no-group-separator") letter is refl in
+    let kept = not_named name (codes "--no-ignore-case") letter is refl in
     cond-false (is_color name) _ _ (ap (λ b. b || bytes_eq name (codes "--colour")) color ∙ colour)
     ∙ cond-false (is_separator name) _ _ separator
     ∙ ap (λ found. with_lettered found name request)
     (cond-false (bytes_eq name (codes "--line-buffered")) _ _ buffered
-    ∙ cond-false (bytes_eq name (codes "--no-group-separator")) _ _ unseparated)
+    ∙ cond-false (bytes_eq name (codes "--no-group-separator")) _ _ unseparated
+    ∙ cond-false (bytes_eq name (codes "--no-ignore-case")) _ _ kept)
     ∙ ap (λ found. result_and_then (λ l. with_letters (l ∷ []) request) (ok_or found (UnknownName request.at))) is
 
 -- the files behind two dashes
