@@ -33,9 +33,10 @@ pub fn lines_are_printed_in_turn()
         (length (flat_map with_feed front)) line part }
 {}
 
-/// What is printed of a line in groups stands behind what is printed of the lines in front of it. Its mark says how it is
-/// printed, with a number that is one more than these are, and at an offset that is the length of these with their line
-/// feeds. In front of it stands a separator if it is printed, the line before it is not, and any was printed before.
+/// What is printed of a line in groups stands behind what is printed of the lines in front of it. Its mark says how it
+/// is printed, with a number that is one more than these are, and at an offset that is the length of these with their
+/// line feeds. A separator stands in front of it if it is printed, the line before it is not, and any line was printed
+/// before.
 pub fn groups_are_printed_in_turn()
     ensures { (search : SearchValue) (options : Options) (any : Bool) (front more : List (List ℕ)) (marks : List Mark)
         (separator name line out : List ℕ)

@@ -1,4 +1,4 @@
-use Rattle.std.proofs.Common.{◌≡◌, ◌+◌, ◌++◌, ◌||◌, List, arith, length, slice_index_or, subst, take, true, ℕ}
+use Rattle.std.proofs.Common.{◌≡◌, ◌+◌, ◌++◌, ◌||◌, arith, length, slice_index_or, subst, take, true}
 use Rattle.std.specs.List.{flat_map, list_any}
 use Rattle.litscan.specs.Context.{is_printed, left_out, printed_between}
 use Rattle.litscan.specs.Lines.{with_feed}
