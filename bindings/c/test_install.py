@@ -197,7 +197,7 @@ class Options(unittest.TestCase):
         script = """compopt() { echo "$@"; }; . "$0"; COMP_WORDS=(litscan "$@") COMP_CWORD=$#; _litscan
                     printf '%s\\n' "${COMPREPLY[@]}" """
         for words, proposed in {
-            ("--co",): "--count --color --colour", ("--color", "="): "always never auto", ("--colour", "=", "a"):
+            ("--co",): "--context --count --color --colour", ("--color", "="): "always never auto", ("--colour", "=", "a"):
             "always auto", ("-m", ""): "+o default", ("--file", ""): "", ("-e", "-"): "+o default", ("a",): "",
         }.items():
             self.assertEqual(run("bash", "-c", script, BASH, *words)[1].split(), proposed.split(), words)

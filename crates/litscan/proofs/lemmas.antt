@@ -1,6 +1,9 @@
 -- Lemmas that several proofs share, by topic.
 pub mod Asked
+pub mod Groups
 pub mod Lines
+pub mod Marks
+pub mod Near
 pub mod Passing
 pub mod Printing
 pub mod Reading

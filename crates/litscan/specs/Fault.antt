@@ -41,6 +41,10 @@ IsReadFault failure fault = option_map read_fault failure ≡ Some fault
 abbrev pub IsWriteFault : Option ErrorKind → Fault → Type 0
 IsWriteFault failure fault = option_map write_fault failure ≡ Some fault
 
+-- why a line is not read: the read failed, or a write before it
+abbrev pub StopsRead : Option ErrorKind → Option ErrorKind → Fault → Type 0
+StopsRead read_failure write_failure fault = IsReadFault read_failure fault ⊎ IsWriteFault write_failure fault
+
 -- why there is no search for some words: one is the first that is empty; memory is refused, where there is a word; they
 -- are more than identifiers, or their automaton needs too many states
 abbrev pub RefusesWords : Bool → List (List ℕ) → Fault → Type 0

@@ -1,14 +1,12 @@
 -- What is printed of files, and said of those that cannot be read.
-use Rattle.std.specs.Prelude.{◌≡◌, ◌≢◌, ◌⊎◌, ℕ, ◌==◌, ◌&&◌, ◌||◌, ◌++◌, Bool, List, [], Option, Some, None, codes, true}
-use Rattle.std.specs.Prelude.{false, if◌then◌else◌, length, map, nat_lt, not, slice_index}
-use Rattle.std.specs.List.{All, count_by, list_any}
+use Rattle.std.specs.Prelude.{◌≡◌, ◌≢◌, ◌⊎◌, ℕ, ◌==◌, ◌&&◌, ◌||◌, ◌++◌, Bool, List, [], ◌∷◌, Option, Some, None, codes}
+use Rattle.std.specs.Prelude.{true, ⊤, false, if◌then◌else◌, length, map, nat_lt, not, slice_index}
+use Rattle.std.specs.List.{list_any}
 use Rattle.std.specs.Option.{IsSome, is_some}
 use Rattle.std.specs.declared.io.ErrorKind.{ErrorKind}
 use Rattle.std.specs.declared.io.ErrorKind.TheVariants as kind
 use Rattle.literal_search.specs.SearchValue.{SearchValue}
-use Rattle.litscan.specs.Lines.{lines_of}
-use Rattle.litscan.specs.Options.{limit_of}
-use Rattle.litscan.specs.Printed.{Prints, StopsAtEnough, counts}
+use Rattle.litscan.specs.Scans.{Scans}
 use Rattle.litscan.specs.declared.files.Found.{Found}
 use Rattle.litscan.specs.declared.input.FileId.{FileId}
 use Rattle.litscan.specs.declared.options.Options.{Options}
@@ -22,21 +20,14 @@ is_input name = (length name == 1) && (slice_index name 0 == 45)
 abbrev pub input_name : List ℕ → List ℕ
 input_name name = if is_input name then codes "(standard input)" else name
 
--- what is printed of a file of this name of which this text was read, up to the line with which enough count, and what
--- its scan found
-abbrev pub PrintsText : SearchValue → Options → List ℕ → List ℕ → Scanned → List ℕ → Type 0
-PrintsText search options name text scanned out =
-    Prints search options name text out
-    × (scanned.count ≡ count_by (counts search options) (lines_of text))
-    × StopsAtEnough (limit_of options) (counts search options) (lines_of text)
-
 -- what is printed of a file of this name, of which this was read if it was searched, and what its scan found; standard
 -- input is open, and searched unless standard output is a file that is not to be read
-abbrev pub PrintsFile : SearchValue → Options → Option FileId → List ℕ → Option (List ℕ) → Scanned → List ℕ → Type 0
-PrintsFile search options output name None scanned out =
+abbrev pub PrintsFile : SearchValue → Options → List ℕ → Bool → Option FileId → List ℕ → Option (List ℕ) → Scanned
+    → List ℕ → Type 0
+PrintsFile search options separator any output name None scanned out =
     ((is_input name ≡ false) ⊎ IsSome output) × (out ≡ []) × (scanned.count ≡ 0) × IsSome scanned.failure
-PrintsFile search options output name (Some text) scanned out =
-    PrintsText search options (input_name name) text scanned out
+PrintsFile search options separator any output name (Some text) scanned out =
+    Scans search options separator any (input_name name) text scanned out
 
 -- a file that is asked for: its name, what was read of it if it was searched, what was found, and what was printed
 pub record Searched : Type 0 where
@@ -45,13 +36,20 @@ pub record Searched : Type 0 where
   pub scanned : Scanned
   pub out : List ℕ
 
+-- what is printed of files in turn, where a line of an earlier one counts or not
+abbrev pub PrintsFiles : SearchValue → Options → List ℕ → Option FileId → Bool → List Searched → Type 0
+PrintsFiles search options separator output any [] = ⊤
+PrintsFiles search options separator output any (one ∷ more) =
+    PrintsFile search options separator any output one.name one.text one.scanned one.out
+    × PrintsFiles search options separator output (any || nat_lt 0 one.scanned.count) more
+
 -- these files of some names were searched in turn, with this result: all, unless one was enough
-pub record AreSearched (search : SearchValue) (options : Options) (output : Option FileId) (names : List (List ℕ))
-    (found : Found) (all : List Searched) : Type 0 where
+pub record AreSearched (search : SearchValue) (options : Options) (separator : List ℕ) (output : Option FileId)
+    (names : List (List ℕ)) (found : Found) (all : List Searched) : Type 0 where
   pub others : List (List ℕ)
   pub names_are : names ≡ map (λ one. one.name) all ++ others
   pub enough : others ≢ [] → (options.quiet && found.any) ≡ true
-  pub each : All (λ one. PrintsFile search options output one.name one.text one.scanned one.out) all
+  pub each : PrintsFiles search options separator output false all
   pub any : found.any ≡ list_any (λ one. nat_lt 0 one.scanned.count) all
   pub failed : found.failed ≡ list_any (λ one. is_some one.scanned.failure) all
 

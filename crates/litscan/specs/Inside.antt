@@ -1,2 +1,3 @@
 -- What models and private functions alone cite.
+pub mod Groups
 pub mod Passed

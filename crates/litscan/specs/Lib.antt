@@ -1,4 +1,5 @@
 pub mod Asked
+pub mod Context
 pub mod DeviceValue
 pub mod Fault
 pub mod Files
@@ -7,4 +8,5 @@ pub mod Lines
 pub mod Options
 pub mod Printed
 pub mod Request
+pub mod Scans
 pub mod Words

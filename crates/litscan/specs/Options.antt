@@ -3,7 +3,7 @@ use Rattle.std.specs.Prelude.{ℕ, ◌+◌, ◌-◌, ◌*◌, ◌^◌, ◌==◌,
 use Rattle.std.specs.Prelude.{None, codes, if◌then◌else◌, min, nat_lt, option_and_then, unwrap_or}
 use Rattle.std.specs.Char.{is_ascii_digit}
 use Rattle.std.specs.Str.{bytes_eq}
-use Rattle.std.specs.Option.{is_some}
+use Rattle.std.specs.Option.{is_some, option_map}
 use Rattle.litscan.specs.declared.options.Color.{Color}
 use Rattle.litscan.specs.declared.options.Color.TheVariants.{Always, Auto, Never}
 use Rattle.litscan.specs.declared.options.Options.{Options}
@@ -20,19 +20,34 @@ no_options = record {
   alone = false;
   whole = false;
   named = None;
+  zero = false;
   listed = None;
   color = Never;
+  line_buffered = false;
   quiet = false;
   untold = false;
   most = None;
+  before = None;
+  after = None;
+  around = None;
+  in_number = false;
+  separated = true;
+  dashed = false;
   help = false;
   version = false;
 }
 
+-- the options with a digit of the number of lines around those that count: it goes on with the number of the digits
+-- right before it. A number of 2^64 or more is taken as 2^64 - 1
+abbrev pub with_digit_of_lines : Options → ℕ → Options
+with_digit_of_lines options digit =
+    let number = if options.in_number then unwrap_or options.around 0 else 0 in
+    record options { around = Some (min (number * 10 + (digit - 48)) (2 ^ 64 - 1)); in_number = true }
+
 -- the options with what a letter asks for, and None if it is no option without argument. The letters are in turn: b, c,
--- h, H, i and y, l, L, n, o, q, s, v, V, w, x, ?, and a and F, which change nothing
-abbrev pub with_letter : Options → ℕ → Option Options
-with_letter options letter =
+-- h, H, i and y, l, L, n, o, q, s, v, V, w, x, Z, ?, and a, F, u and U, which change nothing
+abbrev pub with_plain_letter : Options → ℕ → Option Options
+with_plain_letter options letter =
     if letter == 98 then Some (record options { offsets = true })
     else if letter == 99 then Some (record options { count = true })
     else if letter == 104 then Some (record options { named = Some false })
@@ -48,18 +63,42 @@ with_letter options letter =
     else if letter == 86 then Some (record options { version = true })
     else if letter == 119 then Some (record options { alone = true })
     else if letter == 120 then Some (record options { whole = true })
+    else if letter == 90 then Some (record options { zero = true })
     else if letter == 63 then Some (record options { help = true })
-    else if letter == 97 || letter == 70 then Some options
+    else if letter == 97 || letter == 70 || letter == 117 || letter == 85 then Some options
     else None
+
+-- the options behind a letter that is no digit
+abbrev pub behind_number : Options → Options
+behind_number options = record options { in_number = false }
+
+-- the options with what a letter or a digit asks for
+abbrev pub with_letter : Options → ℕ → Option Options
+with_letter options letter =
+    if is_ascii_digit letter then Some (with_digit_of_lines options letter)
+    else option_map behind_number (with_plain_letter options letter)
+
+-- the options with what a long name asks for, and None if it is no option with neither letter nor argument
+abbrev pub with_switch : Options → List ℕ → Option Options
+with_switch options name =
+    if bytes_eq name (codes "--line-buffered") then Some (record options { line_buffered = true })
+    else if bytes_eq name (codes "--no-group-separator") then Some (record options { separated = false })
+    else if bytes_eq name (codes "--no-ignore-case") then Some (record options { ignore_case = false })
+    else None
+
+-- whether this is the long name of the option for separators of groups
+abbrev pub is_separator : List ℕ → Bool
+is_separator name = bytes_eq name (codes "--group-separator")
 
 -- when colours are printed, where it is known whether standard output is a terminal
 abbrev pub color_for : Bool → Color → Color
 color_for is_terminal Auto = if is_terminal then Always else Never
 color_for is_terminal color = color
 
--- the options, where it is known whether standard output is a terminal
+-- the options, where it is known whether standard output is a terminal, on which each line is written at once
 abbrev pub on_output : Bool → Options → Options
-on_output is_terminal options = record options { color = color_for is_terminal options.color }
+on_output is_terminal options =
+    record options { color = color_for is_terminal options.color; line_buffered = options.line_buffered || is_terminal }
 
 -- whether colours are always printed
 abbrev pub is_always : Color → Bool
@@ -85,14 +124,30 @@ abbrev pub is_enough : Option ℕ → ℕ → Bool
 is_enough None count = false
 is_enough (Some most) count = count == most
 
--- whether an option of this letter takes an argument: e, f and m do
+-- whether an option of this letter takes a number: A, B, C and m do
+abbrev pub takes_number : ℕ → Bool
+takes_number letter = letter == 65 || letter == 66 || letter == 67 || letter == 109
+
+-- the options with the number that the option of this letter takes
+abbrev pub with_number : ℕ → Options → ℕ → Options
+with_number letter options number =
+    if letter == 65 then record options { after = Some number }
+    else if letter == 66 then record options { before = Some number }
+    else if letter == 67 then record options { around = Some number }
+    else record options { most = Some number }
+
+-- whether an option of this letter takes an argument: e and f do, and those that take a number
 abbrev pub takes_argument : ℕ → Bool
-takes_argument letter = letter == 101 || letter == 102 || letter == 109
+takes_argument letter = letter == 101 || letter == 102 || takes_number letter
 
 -- the letter of the option with this long name
 abbrev pub letter_named : List ℕ → Option ℕ
 letter_named name =
-    if bytes_eq name (codes "--byte-offset") then Some 98
+    if bytes_eq name (codes "--after-context") then Some 65
+    else if bytes_eq name (codes "--before-context") then Some 66
+    else if bytes_eq name (codes "--binary") then Some 85
+    else if bytes_eq name (codes "--byte-offset") then Some 98
+    else if bytes_eq name (codes "--context") then Some 67
     else if bytes_eq name (codes "--count") then Some 99
     else if bytes_eq name (codes "--file") then Some 102
     else if bytes_eq name (codes "--files-with-matches") then Some 108
@@ -106,11 +161,13 @@ letter_named name =
     else if bytes_eq name (codes "--max-count") then Some 109
     else if bytes_eq name (codes "--no-filename") then Some 104
     else if bytes_eq name (codes "--no-messages") then Some 115
+    else if bytes_eq name (codes "--null") then Some 90
     else if bytes_eq name (codes "--only-matching") then Some 111
     else if bytes_eq name (codes "--quiet") then Some 113
     else if bytes_eq name (codes "--regexp") then Some 101
     else if bytes_eq name (codes "--silent") then Some 113
     else if bytes_eq name (codes "--text") then Some 97
+    else if bytes_eq name (codes "--unix-byte-offsets") then Some 117
     else if bytes_eq name (codes "--version") then Some 86
     else if bytes_eq name (codes "--with-filename") then Some 72
     else if bytes_eq name (codes "--word-regexp") then Some 119

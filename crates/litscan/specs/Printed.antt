@@ -10,8 +10,8 @@ use Rattle.std.specs.declared.io.ErrorKind.{ErrorKind}
 use Rattle.std.specs.declared.io.ErrorKind.TheVariants as kind
 use Rattle.litscan.specs.Asked.{AreMatches, one_asked}
 use Rattle.litscan.specs.Fault.{IsReadFault, IsWriteFault}
-use Rattle.litscan.specs.Lines.{lines_of, with_feed}
-use Rattle.litscan.specs.Options.{is_colored, is_enough, is_silent, limit_of}
+use Rattle.litscan.specs.Lines.{with_feed}
+use Rattle.litscan.specs.Options.{is_colored, is_enough, limit_of}
 use Rattle.litscan.specs.declared.fault.Fault.{Fault}
 use Rattle.litscan.specs.declared.fault.Fault.TheVariants.{OutOfMemory}
 use Rattle.litscan.specs.declared.options.Options.{Options}
@@ -76,9 +76,9 @@ color_off options = if is_colored options then 27 ∷ codes "[m" ++ 27 ∷ codes
 abbrev pub in_color : Options → List ℕ → List ℕ → List ℕ
 in_color options color bytes = color_on options color ++ bytes ++ color_off options
 
--- a colon, in cyan
+-- a colon, or a dash if that is asked for, in cyan
 abbrev pub printed_colon : Options → List ℕ
-printed_colon options = in_color options (codes "36") (codes ":")
+printed_colon options = in_color options (codes "36") (if options.dashed then codes "-" else codes ":")
 
 -- a match, in bold red
 abbrev pub printed_match : Options → List ℕ → List ℕ
@@ -88,11 +88,17 @@ printed_match options bytes = in_color options (codes "01;31") bytes
 abbrev pub printed_number : Options → ℕ → List ℕ
 printed_number options number = in_color options (codes "32") (decimal number) ++ printed_colon options
 
--- what stands in front of what is printed of a file of this name: the name, in magenta, and a colon, if that is asked
--- for
+-- what stands in front of what is printed of a file of this name: the name, in magenta, and a colon, or a zero byte if
+-- that is asked for
 abbrev pub printed_name : Options → List ℕ → List ℕ
 printed_name options name =
-    if unwrap_or options.named false then in_color options (codes "35") name ++ printed_colon options else []
+    if unwrap_or options.named false then
+    in_color options (codes "35") name ++ (if options.zero then 0 ∷ [] else printed_colon options)
+    else []
+
+-- a name as a line, in magenta, or with a zero byte in place of the line feed if that is asked for
+abbrev pub printed_name_alone : Options → List ℕ → List ℕ
+printed_name_alone options name = in_color options (codes "35") name ++ (if options.zero then 0 ∷ [] else 10 ∷ [])
 
 -- what stands in front of a line or match: the name of its file, the number of its line, and its offset in the text,
 -- where these are asked for, each with a colon
@@ -156,19 +162,12 @@ PrintsUnlessSilent false search options name number offset lines out =
 -- the name of a file as a line, where a line counts and such files are asked for, or where none does and others are
 abbrev pub printed_listed : Bool → Options → List ℕ → ℕ → List ℕ
 printed_listed true options name count =
-    if nat_lt 0 count then with_feed (in_color options (codes "35") name) else []
+    if nat_lt 0 count then printed_name_alone options name else []
 printed_listed false options name count =
-    if nat_lt 0 count then [] else with_feed (in_color options (codes "35") name)
+    if nat_lt 0 count then [] else printed_name_alone options name
 
 -- what is printed behind the lines of a file, so many of which count: nothing, its name, or this number
 abbrev pub printed_behind : Option Bool → Options → List ℕ → ℕ → List ℕ
 printed_behind (Some found) options name count = if options.quiet then [] else printed_listed found options name count
 printed_behind None options name count =
     if options.count && not options.quiet then printed_name options name ++ with_feed (decimal count) else []
-
--- what is printed of a file of this name that has this text
-abbrev pub Prints : SearchValue → Options → List ℕ → List ℕ → List ℕ → Type 0
-Prints search options name text out = (lines : List ℕ)
-    × PrintsUnlessSilent (is_silent options) search options name 1 0 (lines_of text) lines
-    × (out ≡ lines
-    ++ printed_behind options.listed options name (count_by (counts search options) (lines_of text)))

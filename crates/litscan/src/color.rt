@@ -15,8 +15,8 @@ pub const NAME: &[u8] = b"35";
 /// That of numbers and offsets: green.
 const NUMBER: &[u8] = b"32";
 
-/// That of colons: cyan.
-const COLON: &[u8] = b"36";
+/// That of colons, dashes and separators: cyan.
+pub const COLON: &[u8] = b"36";
 
 /// That of matches: bold red.
 pub const MATCH: &[u8] = b"01;31";
@@ -37,7 +37,7 @@ pub fn print_colored<W: Write>(
     turn_off(options, writer)
 }
 
-/// Prints a number and a colon.
+/// Prints a number and a colon, or a dash.
 pub fn print_number<W: Write>(
     options: Options,
     number: u64,
@@ -53,13 +53,14 @@ pub fn print_number<W: Write>(
     print_colon(options, writer)
 }
 
-/// Prints a colon.
+/// Prints a colon, or a dash.
 pub fn print_colon<W: Write>(options: Options, writer: &mut Device<W>) -> Result<(), Fault>
     ensures printed { OnOk result (Appends (W.contents writer.old.inner) (W.contents writer.new.inner)
         (printed_colon options)) }
     ensures error { IfErr result (IsWriteFault writer.new.failure) }
 {
-    print_colored(options, COLON, b":", writer)
+    let mark: &[u8] = if options.dashed { b"-" } else { b":" };
+    print_colored(options, COLON, mark, writer)
 }
 
 /// Turns a colour on.

@@ -8,12 +8,14 @@ ghost use Rattle.std.specs.Io.KnownBytes.{Appends, Consumes, IsAtEnd, Keeps};
 ghost use Rattle.litscan.specs.Fault.{IsReadFault, IsWriteFault, write_fault};
 ghost use Rattle.litscan.specs.Lines.{HasNoFeed, with_feed};
 ghost use Rattle.litscan.specs.Inside.Passed.{Takes};
+ghost use Rattle.litscan.specs.declared.fault.Fault.TheVariants.{OutOfMemory};
 
 use crate::fault::Fault;
+use crate::options::Options;
 use crate::passed::{Passed, take_ahead};
 use literal_search::Search;
 use std::fmt::Display;
-use std::io::{self, BufRead, ErrorKind, Write};
+use std::io::{self, BufRead, BufReader, ErrorKind, Read, Write};
 use std::marker::Model;
 
 /// A reader or a writer of std, of what kind the error of the call was that failed last, if one did, and whether the
@@ -23,6 +25,8 @@ pub struct Device<D> {
     inner: D,
     failure: Option<ErrorKind>,
     flushed: bool,
+    /// Whether a read may wait for input. Contracts do not see this.
+    waits: bool,
 }
 
 impl<D> Model for Device<D> {
@@ -42,6 +46,19 @@ impl<D> Device<D> {
             inner,
             failure: None,
             flushed: false,
+            waits: false,
+        }
+    }
+
+    /// Of this reader, a read of which may wait for input or not.
+    pub fn reading(inner: D, waits: bool) -> Device<D>
+        ensures { result ≡ record { inner = inner; failure = None; flushed = false } }
+    {
+        Device {
+            inner,
+            failure: None,
+            flushed: false,
+            waits,
         }
     }
 
@@ -110,6 +127,18 @@ impl<R: BufRead> Device<R> {
         Ok(passed)
     }
 
+    /// The fault that ends a scan. Memory that is refused for a line counts as a read that failed.
+    pub fn stopped_by(&mut self, fault: Fault) -> Fault
+        ensures inner { self.new.inner ≡ self.old.inner }
+        ensures same { result ≡ fault }
+        ensures read { fault ≡ OutOfMemory → IsReadFault self.new.failure fault }
+    {
+        if fault == Fault::OutOfMemory {
+            self.failure = Some(ErrorKind::OutOfMemory);
+        }
+        fault
+    }
+
     /// What [`Device::pass_lines`] answers if a read fails. After an interrupted read, it passes over nothing.
     fn after_fill(&mut self, error: io::Error) -> Result<Passed, Fault>
         ensures inner { self.new.inner ≡ self.old.inner }
@@ -146,17 +175,57 @@ impl<W: Write> Device<W> {
         self.after_write(written)
     }
 
-    /// Sends on what was written.
+    /// Sends on what was written since the last flush.
     pub fn flush(&mut self) -> Result<(), Fault>
         ensures kept { Keeps (W.contents self.old.inner) (W.contents self.new.inner) }
         ensures flushed { OnOk result (self.new.flushed ≡ true) }
         ensures error { IfErr result (IsWriteFault self.new.failure) }
     {
+        if self.flushed {
+            return Ok(());
+        }
         let flushed = self.inner.flush();
         self.after_write(flushed)?;
         self.flushed = true;
         Ok(())
     }
+}
+
+/// A reader that reads ahead.
+pub trait ReadsAhead {
+    /// Whether it has read a whole line ahead.
+    fn has_line(&self) -> bool;
+}
+
+impl<R: Read> ReadsAhead for BufReader<R> {
+    fn has_line(&self) -> bool {
+        self.buffer().contains(&b'\n')
+    }
+}
+
+/// Flushes the writer if the next read may wait for input, so that all output is seen meanwhile.
+pub fn flush_before_wait<R: ReadsAhead, W: Write>(
+    reader: &Device<R>,
+    writer: &mut Device<W>,
+) -> Result<(), Fault>
+    ensures kept { Keeps (W.contents writer.old.inner) (W.contents writer.new.inner) }
+    ensures error { IfErr result (IsWriteFault writer.new.failure) }
+{
+    if !reader.waits || writer.flushed || reader.inner.has_line() {
+        return Ok(());
+    }
+    writer.flush()
+}
+
+/// Flushes the writer where each line is to be written at once.
+pub fn flush_line<W: Write>(options: Options, writer: &mut Device<W>) -> Result<(), Fault>
+    ensures kept { Keeps (W.contents writer.old.inner) (W.contents writer.new.inner) }
+    ensures error { IfErr result (IsWriteFault writer.new.failure) }
+{
+    if !options.line_buffered {
+        return Ok(());
+    }
+    writer.flush()
 }
 
 /// Takes the line feed off the end of a line, and says whether there was one.

@@ -6,13 +6,17 @@ ghost use Rattle.std.specs.Io.KnownBytes.{Appends, Keeps};
 ghost use Rattle.std.specs.List.{flat_map};
 ghost use Rattle.literal_base.specs.declared.packed.MatchKind.TheVariants.{LeftmostLongest};
 ghost use Rattle.litscan.specs.Fault.{IsWriteFault};
-ghost use Rattle.litscan.specs.Files.{AreSearched, PrintsFile, PrintsText, Searched, input_name, status_for};
-ghost use Rattle.litscan.specs.Printed.{CannotRead, Reads, ReadsTooMany, are_enough};
+ghost use Rattle.litscan.specs.Files.{AreSearched, PrintsFile, Searched, input_name, status_for};
+ghost use Rattle.litscan.specs.Printed.{CannotRead, Reads, ReadsTooMany};
+ghost use Rattle.litscan.specs.Scans.{Scans, is_all};
 ghost use Rattle.litscan.specs.declared.fault.Fault.TheVariants.{OutOfMemory};
 
-use crate::device::Device;
+use crate::device::{Device, ReadsAhead};
 use crate::fault::Fault;
-use crate::input::{FileId, INPUT, buffered, is_file_of, is_input, is_input_file, open, tell};
+use crate::input::{
+    FileId, INPUT, buffered, input_may_wait, is_file_of, is_input, is_input_file, may_wait, open,
+    tell,
+};
 use crate::options::Options;
 use crate::scan::{Scanned, scan};
 use literal_search::Search;
@@ -58,18 +62,19 @@ pub fn scan_files<W: Write>(
     rt: &HostRuntime,
     search: &Search,
     options: Options,
+    separator: &[u8],
     names: &[Vec<u8>],
     output: Option<FileId>,
     writer: &mut Device<W>,
 ) -> Result<Found, Fault>
     requires { search.now.query.kind ≡ LeftmostLongest }
     ensures searched { IfOk result (λ found. (all : List Searched)
-        × AreSearched search.now options output (map (λ name. name.items) names.now) found all
+        × AreSearched search.now options separator.now output (map (λ name. name.items) names.now) found all
         × Appends (W.contents writer.old.inner) (W.contents writer.new.inner) (flat_map (λ one. one.out) all)) }
     ensures flushed { OnOk result (writer.new.flushed ≡ true) }
     ensures error { IfErr result (λ fault. IsWriteFault writer.new.failure fault ⊎ (fault ≡ OutOfMemory)) }
 {
-    let found = scan_each(rt, search, options, names, output, writer)?;
+    let found = scan_each(rt, search, options, separator, names, output, writer)?;
     writer.flush()?;
     Ok(found)
 }
@@ -80,13 +85,14 @@ fn scan_each<W: Write>(
     rt: &HostRuntime,
     search: &Search,
     options: Options,
+    separator: &[u8],
     names: &[Vec<u8>],
     output: Option<FileId>,
     writer: &mut Device<W>,
 ) -> Result<Found, Fault>
     requires { search.now.query.kind ≡ LeftmostLongest }
     ensures searched { IfOk result (λ found. (all : List Searched)
-        × AreSearched search.now options output (map (λ name. name.items) names.now) found all
+        × AreSearched search.now options separator.now output (map (λ name. name.items) names.now) found all
         × Appends (W.contents writer.old.inner) (W.contents writer.new.inner) (flat_map (λ one. one.out) all)) }
     ensures error { IfErr result (λ fault. IsWriteFault writer.new.failure fault ⊎ (fault ≡ OutOfMemory)) }
 {
@@ -98,7 +104,16 @@ fn scan_each<W: Write>(
         if options.quiet && found.any {
             return Ok(found);
         }
-        let scanned = scan_file(rt, search, options, name.as_slice(), output, writer)?;
+        let scanned = scan_file(
+            rt,
+            search,
+            options,
+            separator,
+            found.any,
+            name.as_slice(),
+            output,
+            writer,
+        )?;
         found = found.with(scanned);
     }
     Ok(found)
@@ -109,13 +124,15 @@ fn scan_file<W: Write>(
     rt: &HostRuntime,
     search: &Search,
     options: Options,
+    separator: &[u8],
+    any: bool,
     name: &[u8],
     output: Option<FileId>,
     writer: &mut Device<W>,
 ) -> Result<Scanned, Fault>
     requires { search.now.query.kind ≡ LeftmostLongest }
     ensures printed { IfOk result (λ scanned. (text : Option (List ℕ)) × (out : List ℕ)
-        × PrintsFile search.now options output name.now text scanned out
+        × PrintsFile search.now options separator.now any output name.now text scanned out
         × Appends (W.contents writer.old.inner) (W.contents writer.new.inner) out) }
     ensures error { IfErr result (λ fault. IsWriteFault writer.new.failure fault ⊎ (fault ≡ OutOfMemory)) }
 {
@@ -125,8 +142,17 @@ fn scan_file<W: Write>(
                 return not_read(rt, options, INPUT, ErrorKind::Deadlock, writer);
             }
         }
-        let mut reader = buffered(rt.alloc(), rt.stdin())?;
-        return scan_told(rt, search, options, INPUT, &mut reader, writer);
+        let mut reader = buffered(rt.alloc(), rt.stdin(), input_may_wait(rt))?;
+        return scan_told(
+            rt,
+            search,
+            options,
+            separator,
+            any,
+            INPUT,
+            &mut reader,
+            writer,
+        );
     }
     match open(rt, name) {
         Ok(file) => {
@@ -135,8 +161,18 @@ fn scan_file<W: Write>(
                     return not_read(rt, options, name, ErrorKind::Deadlock, writer);
                 }
             }
-            let mut reader = buffered(rt.alloc(), file)?;
-            scan_told(rt, search, options, name, &mut reader, writer)
+            let waits = may_wait(file.metadata());
+            let mut reader = buffered(rt.alloc(), file, waits)?;
+            scan_told(
+                rt,
+                search,
+                options,
+                separator,
+                any,
+                name,
+                &mut reader,
+                writer,
+            )
         }
         Err(ErrorKind::OutOfMemory) => Err(Fault::OutOfMemory),
         Err(kind) => not_read(rt, options, name, kind, writer),
@@ -144,25 +180,36 @@ fn scan_file<W: Write>(
 }
 
 /// Searches a text. If it cannot be read to its end that is told of, but for `-s`.
-fn scan_told<R: BufRead, W: Write>(
+fn scan_told<R: BufRead + ReadsAhead, W: Write>(
     rt: &HostRuntime,
     search: &Search,
     options: Options,
+    separator: &[u8],
+    any: bool,
     name: &[u8],
     reader: &mut Device<R>,
     writer: &mut Device<W>,
 ) -> Result<Scanned, Fault>
     requires { search.now.query.kind ≡ LeftmostLongest }
     ensures printed { IfOk result (λ scanned. (text out : List ℕ)
-        × Reads scanned.failure (are_enough options scanned) (R.remaining reader.old.inner)
+        × (scans : Scans search.now options separator.now any name.now text scanned out)
+        × Reads scanned.failure (is_all options scanned scans.behind) (R.remaining reader.old.inner)
         (R.remaining reader.new.inner) text
-        × PrintsText search.now options name.now text scanned out
         × Appends (W.contents writer.old.inner) (W.contents writer.new.inner) out) }
     ensures failed { IfOk result (λ scanned. CannotRead reader.new.failure
         (ReadsTooMany (R.remaining reader.old.inner) (R.remaining reader.new.inner)) scanned.failure) }
     ensures error { IfErr result (λ fault. IsWriteFault writer.new.failure fault ⊎ (fault ≡ OutOfMemory)) }
 {
-    let scanned = scan(rt.alloc(), search, options, name, reader, writer)?;
+    let scanned = scan(
+        rt.alloc(),
+        search,
+        options,
+        separator,
+        any,
+        name,
+        reader,
+        writer,
+    )?;
     if let Some(kind) = scanned.failure {
         tell_behind(rt, options, name, kind, writer)?;
     }

@@ -54,13 +54,30 @@ pub fn open(rt: &HostRuntime, name: &[u8]) -> Result<File, ErrorKind> {
     fs::open(rt, path).map_err(|error| error.kind())
 }
 
-/// A reader that reads block by block.
-pub fn buffered<R: Read + Drop>(alloc: Global, reader: R) -> Result<Device<BufReader<R>>, Fault>
+/// Whether a read of the file with this metadata, if there is any, may wait for input: it is no regular file.
+pub fn may_wait(metadata: io::Result<Metadata>) -> bool {
+    match metadata {
+        Ok(metadata) => !metadata.is_file(),
+        Err(_) => true,
+    }
+}
+
+/// Whether a read of standard input may wait.
+pub fn input_may_wait(rt: &HostRuntime) -> bool {
+    may_wait(fs::metadata(rt, "/dev/stdin"))
+}
+
+/// A reader that reads block by block, and may wait for input or not.
+pub fn buffered<R: Read + Drop>(
+    alloc: Global,
+    reader: R,
+    waits: bool,
+) -> Result<Device<BufReader<R>>, Fault>
     ensures new { IfOk result (λ device. device.failure ≡ None) }
     ensures error { OnErr result (result ≡ Err Fault.OutOfMemory) }
 {
     match BufReader::with_capacity(alloc, BLOCK, reader) {
-        Ok(reader) => Ok(Device::new(reader)),
+        Ok(reader) => Ok(Device::reading(reader, waits)),
         Err(_) => Err(Fault::OutOfMemory),
     }
 }

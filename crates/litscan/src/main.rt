@@ -4,14 +4,17 @@
 mod args;
 mod asked;
 mod color;
+mod context;
 mod device;
 mod fault;
 mod files;
 mod input;
 mod laws;
 mod lines;
+mod near;
 mod options;
 mod passed;
+mod printing;
 mod request;
 mod scan;
 mod words;
@@ -42,22 +45,30 @@ Prints the lines of each FILE in which one of the words occurs, as grep -F does.
   -e, --regexp=WORDS            look for these words
   -f, --file=FILE               look for the words in this file
   -i, -y, --ignore-case         ignore ASCII case
+  --no-ignore-case              do not ignore it
   -v, --invert-match            take the lines that else would not count
   -w, --word-regexp             take words only where no letter, digit or _ is next to them
   -x, --line-regexp             take lines only that are a word as a whole
   -m, --max-count=N             read no more of a file once N lines count
+  -A, --after-context=N         print N lines after each line that counts
+  -B, --before-context=N        print N lines before each line that counts
+  -C, --context=N               print N lines before and after each line that counts, as -N does
+  --group-separator=SEP         print SEP between groups of lines that are not next to each other, in place of --
+  --no-group-separator          print nothing between groups of lines
   -b, --byte-offset             print the offset of each line, or match, in the file
   -n, --line-number             print the number of each line
   -H, --with-filename           print the name of the file in front of each line
   -h, --no-filename             print no name of a file
+  -Z, --null                    print a zero byte after the name of a file, in place of a colon or a line feed
   -o, --only-matching           print the matches in these lines
   -c, --count                   print how many lines count
   -l, --files-with-matches      print the names of the files in which a line counts
   -L, --files-without-match     print the names of the files in which none does
   --color[=WHEN], --colour      print matches, names and numbers in colours: WHEN is always, never, or auto
+  --line-buffered               write each line at once
   -q, --quiet, --silent         print nothing
   -s, --no-messages             say nothing of files that cannot be read
-  -a, -F, --text, --fixed-strings  change nothing
+  -a, -F, -u, -U, --text, --fixed-strings, --unix-byte-offsets, --binary  change nothing
   -V, --version                 print the version of litscan
   --help                        print this
 
@@ -108,13 +119,13 @@ fn explain(rt: &HostRuntime, text: &str) -> Result<u8, Fault> {
     Ok(0)
 }
 
-/// Searches the files, and gives the status. What is printed is kept until a block is full, but on a terminal.
+/// Searches the files, and gives the status. What is printed is written when a block is full, and where the scan
+/// flushes it.
 fn search_files(rt: &HostRuntime, request: &Request) -> Result<u8, Fault> {
     let words = words_of(rt, request.sources.as_slice())?;
     let search = search_for(rt.alloc(), request.options.ignore_case, words.as_slice())?;
     let is_terminal = rt.stdout().is_terminal();
-    let room = if is_terminal { 0 } else { BLOCK };
-    let writer = BufWriter::with_capacity(rt.alloc(), room, rt.stdout()).or(Err(
+    let writer = BufWriter::with_capacity(rt.alloc(), BLOCK, rt.stdout()).or(Err(
         Fault::OutOfMemory,
     ))?;
     let mut writer = Device::new(writer);
@@ -122,6 +133,7 @@ fn search_files(rt: &HostRuntime, request: &Request) -> Result<u8, Fault> {
         rt,
         &search,
         request.options.on_output(is_terminal),
+        request.separator(),
         request.files.as_slice(),
         file_not_read(rt, request.options),
         &mut writer,

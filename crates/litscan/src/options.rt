@@ -1,9 +1,12 @@
 //! What is asked for of each file, and the letters and names that ask for it.
-ghost use Rattle.std.specs.Prelude.{◌≡◌};
+ghost use Rattle.std.specs.Prelude.{◌≡◌, true};
+ghost use Rattle.std.specs.Char.{is_ascii_digit};
 ghost use Rattle.std.specs.Str.{bytes_eq};
-ghost use Rattle.litscan.specs.Options.{color_named, is_color, is_colored, is_enough, is_silent, letter_named};
-ghost use Rattle.litscan.specs.Options.{limit_of, no_options, number_of, on_output, takes_argument, with_digit};
-ghost use Rattle.litscan.specs.Options.{with_letter};
+ghost use Rattle.litscan.specs.Context.{as_context, has_context, lines_after, lines_before};
+ghost use Rattle.litscan.specs.Options.{color_named, is_color, is_colored, is_enough, is_separator, is_silent};
+ghost use Rattle.litscan.specs.Options.{letter_named, limit_of, no_options, number_of, on_output, takes_argument};
+ghost use Rattle.litscan.specs.Options.{takes_number, with_digit, with_digit_of_lines, with_letter, with_number};
+ghost use Rattle.litscan.specs.Options.{with_plain_letter, with_switch};
 
 /// When colours are printed.
 #[derive(Clone, Copy)]
@@ -37,17 +40,33 @@ pub struct Options {
     pub whole: bool,
     /// `-H`, `-h`: whether the name of its file is printed in front of what is printed, if that is asked for.
     pub named: Option<bool>,
+    /// `-Z`: whether a zero byte stands behind the name of a file, in place of a colon or a line feed.
+    pub zero: bool,
     /// `-l`, `-L`: whether the names of the files in which a line counts are printed, or of the others, in place of
     /// lines.
     pub listed: Option<bool>,
     /// `--color`: when names, numbers and matches are printed in colours.
     pub color: Color,
+    /// `--line-buffered`: whether what is printed of a line is written at once.
+    pub line_buffered: bool,
     /// `-q`: whether nothing is printed.
     pub quiet: bool,
     /// `-s`: whether nothing is said of files that cannot be read.
     pub untold: bool,
     /// `-m`: how many lines of a file may count.
     pub most: Option<u64>,
+    /// `-B`: how many lines are printed before a line that counts, if that is asked for.
+    pub before: Option<u64>,
+    /// `-A`: how many lines are printed after a line that counts, if that is asked for.
+    pub after: Option<u64>,
+    /// `-C`, `-NUM`: the same for both, where neither `before` nor `after` says otherwise.
+    pub around: Option<u64>,
+    /// Whether the letter that was taken last is a digit of `-NUM`.
+    pub in_number: bool,
+    /// `--no-group-separator`: whether a separator stands between groups of lines.
+    pub separated: bool,
+    /// Whether a dash stands in place of each colon, as before a line that does not count.
+    pub dashed: bool,
     /// `--help`: whether this program is explained.
     pub help: bool,
     /// `-V`: whether the version of this program is printed.
@@ -69,19 +88,59 @@ impl Options {
             alone: false,
             whole: false,
             named: None,
+            zero: false,
             listed: None,
             color: Color::Never,
+            line_buffered: false,
             quiet: false,
             untold: false,
             most: None,
+            before: None,
+            after: None,
+            around: None,
+            in_number: false,
+            separated: true,
+            dashed: false,
             help: false,
             version: false,
         }
     }
 
-    /// With what this letter asks for, if it is one of an option without argument.
+    /// With what this letter or digit asks for, if it is one of an option without argument.
     pub fn with_letter(self, letter: u8) -> Option<Options>
         ensures { result ≡ with_letter self letter }
+    {
+        if letter.is_ascii_digit() {
+            return Some(self.with_digit_of_lines(letter));
+        }
+        let mut options = self.with_plain_letter(letter)?;
+        options.in_number = false;
+        Some(options)
+    }
+
+    /// With a digit of the number of lines around those that count, of 2^64 - 1 lines at most.
+    fn with_digit_of_lines(self, digit: u8) -> Options
+        requires { is_ascii_digit digit ≡ true }
+        ensures { result ≡ with_digit_of_lines self digit }
+    {
+        let mut options = self;
+        let number = if options.in_number {
+            options.around.unwrap_or(0)
+        } else {
+            0
+        };
+        options.around = Some(
+            number
+                .saturating_mul(10)
+                .saturating_add(u64::from(digit - b'0')),
+        );
+        options.in_number = true;
+        options
+    }
+
+    /// With what this letter asks for, if it is one of an option without argument.
+    fn with_plain_letter(self, letter: u8) -> Option<Options>
+        ensures { result ≡ with_plain_letter self letter }
     {
         let mut options = self;
         match letter {
@@ -100,14 +159,50 @@ impl Options {
             b'V' => options.version = true,
             b'w' => options.alone = true,
             b'x' => options.whole = true,
+            b'Z' => options.zero = true,
             b'?' => options.help = true,
-            b'a' | b'F' => {}
+            b'a' | b'F' | b'u' | b'U' => {}
             _ => return None,
         }
         Some(options)
     }
 
-    /// With colours always or never, by whether standard output is a terminal where that is to tell.
+    /// With what this long name asks for, if it is one of an option with neither letter nor argument.
+    pub fn with_switch(self, name: &[u8]) -> Option<Options>
+        ensures { result ≡ with_switch self name.now }
+    {
+        let mut options = self;
+        if is_text(name, "--line-buffered") {
+            options.line_buffered = true;
+            return Some(options);
+        }
+        if is_text(name, "--no-group-separator") {
+            options.separated = false;
+            return Some(options);
+        }
+        if is_text(name, "--no-ignore-case") {
+            options.ignore_case = false;
+            return Some(options);
+        }
+        None
+    }
+
+    /// With the number that the option of this letter takes.
+    pub fn with_number(self, letter: u8, number: u64) -> Options
+        ensures { result ≡ with_number letter self number }
+    {
+        let mut options = self;
+        match letter {
+            b'A' => options.after = Some(number),
+            b'B' => options.before = Some(number),
+            b'C' => options.around = Some(number),
+            _ => options.most = Some(number),
+        }
+        options
+    }
+
+    /// With colours always or never, by whether standard output is a terminal where that is to tell. On a terminal each
+    /// line is written at once.
     pub fn on_output(self, is_terminal: bool) -> Options
         ensures { result ≡ on_output is_terminal self }
     {
@@ -119,6 +214,7 @@ impl Options {
                 Color::Never
             };
         }
+        options.line_buffered = options.line_buffered || is_terminal;
         options
     }
 
@@ -151,6 +247,42 @@ impl Options {
     }
 }
 
+impl Options {
+    /// Whether lines around those that count are printed.
+    pub fn has_context(self) -> bool
+        ensures { result ≡ has_context self }
+    {
+        !self.is_silent()
+            && (self.before.is_some() || self.after.is_some() || self.around.is_some())
+    }
+
+    /// How many lines are printed before a line that counts.
+    pub fn lines_before(self) -> u64
+        ensures { result ≡ lines_before self }
+    {
+        self.before.unwrap_or(self.around.unwrap_or(0))
+    }
+
+    /// How many lines are printed after a line that counts, if one may count.
+    pub fn lines_after(self) -> u64
+        ensures { result ≡ lines_after self }
+    {
+        if is_enough(self.limit(), 0) {
+            return 0;
+        }
+        self.after.unwrap_or(self.around.unwrap_or(0))
+    }
+
+    /// As a line is printed that stands around one that counts: with a dash in place of each colon.
+    pub fn as_context(self) -> Options
+        ensures { result ≡ as_context self }
+    {
+        let mut options = self;
+        options.dashed = true;
+        options
+    }
+}
+
 /// Whether so many lines are enough.
 pub fn is_enough(limit: Option<u64>, count: u64) -> bool
     ensures { result ≡ is_enough limit count }
@@ -165,7 +297,14 @@ pub fn is_enough(limit: Option<u64>, count: u64) -> bool
 pub fn takes_argument(letter: u8) -> bool
     ensures { result ≡ takes_argument letter }
 {
-    letter == b'e' || letter == b'f' || letter == b'm'
+    letter == b'e' || letter == b'f' || takes_number(letter)
+}
+
+/// Whether an option of this letter takes a number.
+pub fn takes_number(letter: u8) -> bool
+    ensures { result ≡ takes_number letter }
+{
+    letter == b'A' || letter == b'B' || letter == b'C' || letter == b'm'
 }
 
 /// The letter of the option with this long name.
@@ -173,7 +312,11 @@ pub fn letter_named(name: &[u8]) -> Option<u8>
     ensures { result ≡ letter_named name.now }
 {
     match name {
+        _ if is_text(name, "--after-context") => Some(b'A'),
+        _ if is_text(name, "--before-context") => Some(b'B'),
+        _ if is_text(name, "--binary") => Some(b'U'),
         _ if is_text(name, "--byte-offset") => Some(b'b'),
+        _ if is_text(name, "--context") => Some(b'C'),
         _ if is_text(name, "--count") => Some(b'c'),
         _ if is_text(name, "--file") => Some(b'f'),
         _ if is_text(name, "--files-with-matches") => Some(b'l'),
@@ -187,11 +330,13 @@ pub fn letter_named(name: &[u8]) -> Option<u8>
         _ if is_text(name, "--max-count") => Some(b'm'),
         _ if is_text(name, "--no-filename") => Some(b'h'),
         _ if is_text(name, "--no-messages") => Some(b's'),
+        _ if is_text(name, "--null") => Some(b'Z'),
         _ if is_text(name, "--only-matching") => Some(b'o'),
         _ if is_text(name, "--quiet") => Some(b'q'),
         _ if is_text(name, "--regexp") => Some(b'e'),
         _ if is_text(name, "--silent") => Some(b'q'),
         _ if is_text(name, "--text") => Some(b'a'),
+        _ if is_text(name, "--unix-byte-offsets") => Some(b'u'),
         _ if is_text(name, "--version") => Some(b'V'),
         _ if is_text(name, "--with-filename") => Some(b'H'),
         _ if is_text(name, "--word-regexp") => Some(b'w'),
@@ -204,6 +349,13 @@ pub fn is_color(name: &[u8]) -> bool
     ensures { result ≡ is_color name.now }
 {
     is_text(name, "--color") || is_text(name, "--colour")
+}
+
+/// Whether this is the long name of the option for separators of groups.
+pub fn is_separator(name: &[u8]) -> bool
+    ensures { result ≡ is_separator name.now }
+{
+    is_text(name, "--group-separator")
 }
 
 /// When colours are printed, by the argument of that option, if it is one.

@@ -5,11 +5,13 @@ ghost use Rattle.std.specs.Result.{IsOk};
 ghost use Rattle.litscan.specs.Request.{Becomes, BecomesBy, SomeAreRight, completed, is_equals, is_long, is_option};
 ghost use Rattle.litscan.specs.Request.{no_request, request_of, value_of_request, value_of_source, with_any};
 ghost use Rattle.litscan.specs.Request.{with_argument, with_behind, with_file, with_files, with_letters, with_long};
-ghost use Rattle.litscan.specs.Request.{with_name, with_named, with_source, with_word, with_words};
+ghost use Rattle.litscan.specs.Request.{separator_of, with_name, with_named, with_separator, with_source, with_word};
+ghost use Rattle.litscan.specs.Request.{with_words};
 
 use crate::fault::Fault;
 use crate::options::{
-    Color, Options, color_named, is_color, letter_named, number_of, takes_argument,
+    Color, Options, color_named, is_color, is_separator, letter_named, number_of, takes_argument,
+    takes_number,
 };
 use std::alloc::Global;
 
@@ -29,6 +31,8 @@ pub enum Next {
     Any,
     /// The argument of the option of this letter.
     Argument(u8),
+    /// What stands between groups of lines.
+    Separator,
     /// The name of a file, whatever it is.
     File,
 }
@@ -42,6 +46,8 @@ pub struct Request {
     pub sources: Vec<Source>,
     /// The names of the files, of which `-` is standard input.
     pub files: Vec<Vec<u8>>,
+    /// What stands between groups of lines, if that is asked for.
+    pub separator: Option<Vec<u8>>,
     /// What the word behind these is.
     pub next: Next,
     /// The number of the word that is taken, from 0 up.
@@ -72,6 +78,7 @@ impl Request {
             options: Options::none(),
             sources: Vec::new(alloc),
             files: Vec::new(alloc),
+            separator: None,
             next: Next::Any,
             at: 0,
         }
@@ -99,6 +106,10 @@ impl Request {
                 self.next = Next::Any;
                 self.take_argument(alloc, letter, word)
             }
+            Next::Separator => {
+                self.next = Next::Any;
+                self.set_separator(alloc, word)
+            }
             Next::File => self.add_file(alloc, word),
         }
     }
@@ -115,6 +126,7 @@ impl Request {
             return self.take_long(alloc, word);
         }
         if is_option(word) {
+            self.options.in_number = false;
             return self.take_letters(alloc, &word[1..]);
         }
         self.add_file(alloc, word)
@@ -138,6 +150,14 @@ impl Request {
             self.options.color = Color::Auto;
             return Ok(());
         }
+        if is_separator(name) {
+            self.next = Next::Separator;
+            return Ok(());
+        }
+        if let Some(options) = self.options.with_switch(name) {
+            self.options = options;
+            return Ok(());
+        }
         let letter = letter_named(name).ok_or(Fault::UnknownName(self.at))?;
         self.take_letters(alloc, &[letter])
     }
@@ -150,6 +170,12 @@ impl Request {
         if is_color(name) {
             self.options.color = color_named(argument).ok_or(Fault::Usage)?;
             return Ok(());
+        }
+        if is_separator(name) {
+            return self.set_separator(alloc, argument);
+        }
+        if self.options.with_switch(name).is_some() {
+            return Err(Fault::Usage);
         }
         let letter = letter_named(name).ok_or(Fault::UnknownName(self.at))?;
         if !takes_argument(letter) {
@@ -191,8 +217,9 @@ impl Request {
         ensures { Becomes result (with_argument letter argument.now (value_of_request self.old))
             (value_of_request self.new) }
     {
-        if letter == b'm' {
-            self.options.most = Some(number_of(argument).ok_or(Fault::Usage)?);
+        if takes_number(letter) {
+            let number = number_of(argument).ok_or(Fault::Usage)?;
+            self.options = self.options.with_number(letter, number);
             return Ok(());
         }
         let argument = copy_of(alloc, argument)?;
@@ -200,6 +227,26 @@ impl Request {
             return self.add_source(Source::Words(argument));
         }
         self.add_source(Source::File(argument))
+    }
+
+    /// Sets what stands between groups of lines.
+    fn set_separator(&mut self, alloc: Global, separator: &[u8]) -> Result<(), Fault>
+        ensures { Becomes result (Ok (with_separator separator.now (value_of_request self.old)))
+            (value_of_request self.new) }
+    {
+        self.separator = Some(copy_of(alloc, separator)?);
+        self.options.separated = true;
+        Ok(())
+    }
+
+    /// What stands between groups of lines.
+    pub fn separator(&self) -> &[u8]
+        ensures { result.now ≡ separator_of (value_of_request self.now) }
+    {
+        match &self.separator {
+            Some(separator) => separator.as_slice(),
+            None => b"--",
+        }
     }
 
     /// Adds a source of words.
@@ -222,8 +269,9 @@ impl Request {
     fn complete(&mut self, alloc: Global) -> Result<(), Fault>
         ensures { Becomes result (completed (value_of_request self.old)) (value_of_request self.new) }
     {
-        if let Next::Argument(_) = self.next {
-            return Err(Fault::Usage);
+        match self.next {
+            Next::Argument(_) | Next::Separator => return Err(Fault::Usage),
+            _ => {}
         }
         if self.options.help || self.options.version {
             return Ok(());

@@ -1,27 +1,27 @@
 //! Which lines count, and what is printed of them.
-ghost use Rattle.std.specs.Prelude.{◌≡◌, ◌<◌, ◌≤◌, ◌+◌, ◌^◌, ◌&&◌, ◌||◌, ℕ, List, ◌∷◌, [], length, min, true};
+ghost use Rattle.std.specs.Prelude.{◌≡◌, ◌≢◌, ◌<◌, ◌≤◌, ◌+◌, ◌^◌, ◌&&◌, ◌||◌, ℕ, List, ◌∷◌, [], length, true};
 ghost use Rattle.std.specs.Prelude.{IfErr, IfOk, MatchOption, MatchResult, OnOk};
 ghost use Rattle.std.specs.List.{count_by};
 ghost use Rattle.std.specs.Option.{IsSome};
-ghost use Rattle.std.specs.Io.KnownBytes.{Appends, Consumes};
-ghost use Rattle.literal_base.specs.MatchValue.{MatchValue};
+ghost use Rattle.std.specs.Io.KnownBytes.{Appends, Consumes, Keeps};
 ghost use Rattle.literal_base.specs.declared.packed.MatchKind.TheVariants.{LeftmostLongest};
-ghost use Rattle.litscan.specs.Asked.{AreMatches, one_asked};
-ghost use Rattle.litscan.specs.Fault.{IsReadFault, IsWriteFault};
-ghost use Rattle.litscan.specs.Lines.{lines_of, with_feed};
+ghost use Rattle.litscan.specs.Asked.{one_asked};
+ghost use Rattle.litscan.specs.Fault.{IsReadFault, IsWriteFault, StopsRead};
+ghost use Rattle.litscan.specs.Lines.{lines_of};
 ghost use Rattle.litscan.specs.Inside.Passed.{HasWord, Takes, TakesNext, lines_read};
-ghost use Rattle.litscan.specs.Options.{is_colored, is_silent, limit_of};
-ghost use Rattle.litscan.specs.Printed.{CannotRead, Prints, PrintsUnlessSilent, PrintsWhole, Reads, ReadsTooMany};
-ghost use Rattle.litscan.specs.Printed.{StopsAtEnough, StopsScan, are_enough, counts, marked_from, printed_behind};
-ghost use Rattle.litscan.specs.Printed.{printed_head, printed_listed, printed_match, printed_matches, printed_name};
-ghost use Rattle.litscan.specs.Printed.{printed_part};
+ghost use Rattle.litscan.specs.Options.{is_silent, limit_of};
+ghost use Rattle.litscan.specs.Printed.{CannotRead, PrintsUnlessSilent, Reads, ReadsTooMany, StopsAtEnough, StopsScan};
+ghost use Rattle.litscan.specs.Printed.{are_enough, counts, printed_behind, printed_listed};
+ghost use Rattle.litscan.specs.Scans.{Scans, is_all};
 
-use crate::asked::{has_asked, next_asked};
-use crate::color::{MATCH, NAME, print_colon, print_colored, print_number};
-use crate::device::Device;
+use crate::asked::has_asked;
+use crate::color::{NAME, print_colored};
+use crate::device::{Device, ReadsAhead, flush_before_wait, flush_line};
 use crate::fault::Fault;
+use crate::near::scan_near;
 use crate::options::{Options, is_enough};
 use crate::passed::Passed;
+use crate::printing::{print_line, print_matches, print_name};
 use literal_search::Search;
 use std::alloc::Global;
 use std::io::{BufRead, ErrorKind, Write};
@@ -38,30 +38,57 @@ pub struct Scanned {
     pub failure: Option<ErrorKind>,
 }
 
+impl Scanned {
+    /// All that has to be read was read, and so many lines count.
+    pub fn whole(count: u64) -> Scanned
+        ensures { result ≡ record { count = count; failure = None } }
+    {
+        Scanned {
+            count,
+            failure: None,
+        }
+    }
+
+    /// So many lines count, and the text is too large to be read on.
+    pub fn too_large(count: u64) -> Scanned
+        ensures { result ≡ record { count = count; failure = Some ErrorKind.FileTooLarge } }
+    {
+        Scanned {
+            count,
+            failure: Some(ErrorKind::FileTooLarge),
+        }
+    }
+}
+
 /// Reads a text, prints what is asked for under this name, and says how many of its lines count. No more is read once
-/// enough count. Where a read fails, what was read before is scanned.
-pub fn scan<R: BufRead, W: Write>(
+/// enough count, and the lines after the last of them were read that are printed too. Where a read fails, what was read
+/// before is scanned.
+pub fn scan<R: BufRead + ReadsAhead, W: Write>(
     alloc: Global,
     search: &Search,
     options: Options,
+    separator: &[u8],
+    any: bool,
     name: &[u8],
     reader: &mut Device<R>,
     writer: &mut Device<W>,
 ) -> Result<Scanned, Fault>
     requires { search.now.query.kind ≡ LeftmostLongest }
     ensures scanned { IfOk result (λ scanned. (text out : List ℕ)
-        × Reads scanned.failure (are_enough options scanned) (R.remaining reader.old.inner)
+        × (scans : Scans search.now options separator.now any name.now text scanned out)
+        × Reads scanned.failure (is_all options scanned scans.behind) (R.remaining reader.old.inner)
         (R.remaining reader.new.inner) text
-        × StopsAtEnough (limit_of options) (counts search.now options) (lines_of text)
-        × Appends (W.contents writer.old.inner) (W.contents writer.new.inner) out
-        × Prints search.now options name.now text out
-        × (scanned.count ≡ count_by (counts search.now options) (lines_of text))) }
+        × Appends (W.contents writer.old.inner) (W.contents writer.new.inner) out) }
     ensures failed { IfOk result (λ scanned. CannotRead reader.new.failure
         (ReadsTooMany (R.remaining reader.old.inner) (R.remaining reader.new.inner)) scanned.failure) }
     ensures error { IfErr result (StopsScan reader.new.failure writer.new.failure) }
 {
+    if options.has_context() {
+        return scan_near(alloc, search, options, separator, any, name, reader, writer);
+    }
     let scanned = scan_lines(alloc, search, options, name, reader, writer)?;
     print_behind(options, name, scanned.count, writer)?;
+    flush_line(options, writer)?;
     Ok(scanned)
 }
 
@@ -105,24 +132,11 @@ fn print_listed<W: Write>(
         return Ok(());
     }
     print_colored(options, NAME, name, writer)?;
-    writer.write_all(b"\n")
-}
-
-/// Prints the name of a file and a colon, where that is asked for.
-fn print_name<W: Write>(options: Options, name: &[u8], writer: &mut Device<W>) -> Result<(), Fault>
-    ensures printed { OnOk result (Appends (W.contents writer.old.inner) (W.contents writer.new.inner)
-        (printed_name options name.now)) }
-    ensures error { IfErr result (IsWriteFault writer.new.failure) }
-{
-    if !options.named.unwrap_or(false) {
-        return Ok(());
-    }
-    print_colored(options, NAME, name, writer)?;
-    print_colon(options, writer)
+    writer.write_all(if options.zero { b"\0" } else { b"\n" })
 }
 
 /// Reads a text until enough lines count, prints what is asked for of those that do, and says how many these are.
-fn scan_lines<R: BufRead, W: Write>(
+fn scan_lines<R: BufRead + ReadsAhead, W: Write>(
     alloc: Global,
     search: &Search,
     options: Options,
@@ -152,7 +166,7 @@ fn scan_lines<R: BufRead, W: Write>(
                 failure: None,
             });
         }
-        let next = match next_line(search, options, gap, reader, &mut line) {
+        let next = match next_line(search, options, gap, reader, &mut line, writer) {
             Ok(next) => next,
             Err(fault) => return failed_behind(count, fault, reader.failure()),
         };
@@ -232,58 +246,65 @@ struct Next {
 
 /// Reads the next line that may count into the line buffer. It passes over lines that do not count, as far as these are
 /// read ahead.
-fn next_line<R: BufRead>(
+fn next_line<R: BufRead + ReadsAhead, W: Write>(
     search: &Search,
     options: Options,
     gap: Gap,
     reader: &mut Device<R>,
     line: &mut Vec<u8>,
+    writer: &mut Device<W>,
 ) -> Result<Next, Fault>
     ensures takes { IfOk result (λ next. TakesNext search.now options next line.new.items
         (R.remaining reader.old.inner) (R.remaining reader.new.inner)) }
-    ensures error { IfErr result (IsReadFault reader.new.failure) }
+    ensures kept { Keeps (W.contents writer.old.inner) (W.contents writer.new.inner) }
+    ensures error { IfErr result (StopsRead reader.new.failure writer.new.failure) }
 {
-    let passed = pass_lines(search, options, gap, reader, line)?;
+    let passed = pass_lines(search, options, gap, reader, line, writer)?;
     if passed.next.is_some() {
         return Ok(Next { passed, fed: true });
     }
+    flush_before_wait(reader, writer)?;
     let fed = reader.read_line(line)?;
     Ok(Next { passed, fed })
 }
 
 /// Passes over lines without a match, if these do not count and the last gap was long.
-fn pass_lines<R: BufRead>(
+fn pass_lines<R: BufRead + ReadsAhead, W: Write>(
     search: &Search,
     options: Options,
     gap: Gap,
     reader: &mut Device<R>,
     line: &mut Vec<u8>,
+    writer: &mut Device<W>,
 ) -> Result<Passed, Fault>
     ensures takes { IfOk result (λ passed. (text : List ℕ) × Takes search.now passed line.new.items text
         × Consumes (R.remaining reader.old.inner) (R.remaining reader.new.inner) text) }
     ensures none { IfOk result (λ passed. options.others ≡ true → passed.lines ≡ 0) }
-    ensures error { IfErr result (IsReadFault reader.new.failure) }
+    ensures kept { Keeps (W.contents writer.old.inner) (W.contents writer.new.inner) }
+    ensures error { IfErr result (StopsRead reader.new.failure writer.new.failure) }
 {
     if options.others || !gap.is_long() {
         return Ok(Passed::none());
     }
+    flush_before_wait(reader, writer)?;
     reader.pass_lines(search, line)
 }
 
-/// What a scan found whose read failed so. Memory that is refused ends all.
-fn failed_behind(count: u64, fault: Fault, failure: Option<ErrorKind>) -> Result<Scanned, Fault>
-    ensures { MatchResult result (λ scanned. scanned ≡ record { count = count; failure = failure })
-        (λ error. (error ≡ fault) × (fault ≡ Fault.OutOfMemory)) }
+/// What a scan found whose read failed so. Any other fault ends all.
+pub fn failed_behind(count: u64, fault: Fault, failure: Option<ErrorKind>) -> Result<Scanned, Fault>
+    ensures { MatchResult result
+        (λ scanned. (scanned ≡ record { count = count; failure = failure }) × (fault ≡ Fault.ReadFailed))
+        (λ error. (error ≡ fault) × (fault ≢ Fault.ReadFailed)) }
 {
     match fault {
-        Fault::OutOfMemory => Err(fault),
-        _ => Ok(Scanned { count, failure }),
+        Fault::ReadFailed => Ok(Scanned { count, failure }),
+        _ => Err(fault),
     }
 }
 
 /// The offsets in the text behind so many bytes that were passed over, and behind the next line and its line feed, if
 /// these are below 2^64.
-fn offsets_behind(offset: u64, passed: usize, line: &[u8]) -> Option<(u64, u64)>
+pub fn offsets_behind(offset: u64, passed: usize, line: &[u8]) -> Option<(u64, u64)>
     ensures { MatchOption result (2 ^ 64 ≤ offset + passed + length line.now + 1)
         (λ ends. (ends.0 ≡ offset + passed) × (ends.1 ≡ offset + passed + length line.now + 1)
         × (ends.1 < 2 ^ 64)) }
@@ -322,7 +343,9 @@ fn take_read<W: Write>(
         return Ok(0);
     }
     let known = next.passed.next.is_some();
-    take_line(known, search, options, name, number, offset, line, writer)
+    let taken = take_line(known, search, options, name, number, offset, line, writer)?;
+    flush_line(options, writer)?;
+    Ok(taken)
 }
 
 /// Prints what is asked for of a line if it counts, unless no line is printed. Answers 1 if it counts,
@@ -369,7 +392,7 @@ fn prints_nothing(options: Options) -> bool
 }
 
 /// Whether a line counts, of which it may be known that a word occurs in it.
-fn counts(known: bool, search: &Search, options: Options, line: &[u8]) -> bool
+pub fn counts(known: bool, search: &Search, options: Options, line: &[u8]) -> bool
     requires known { known ≡ true → HasWord search.now line.now }
     requires longest { search.now.query.kind ≡ LeftmostLongest }
     ensures { result ≡ counts search.now options line.now }
@@ -387,137 +410,4 @@ fn is_asked(known: bool, search: &Search, options: Options, line: &[u8]) -> bool
         return true;
     }
     has_asked(search, options, line)
-}
-
-/// Prints the matches in a line, each as a line of its own. Answers 1 if there is one, and else 0.
-fn print_matches<W: Write>(
-    search: &Search,
-    options: Options,
-    name: &[u8],
-    number: u64,
-    offset: u64,
-    line: &[u8],
-    writer: &mut Device<W>,
-) -> Result<u64, Fault>
-    requires longest { search.now.query.kind ≡ LeftmostLongest }
-    requires inside { offset + length line.now < 2 ^ 64 }
-    ensures printed { IfOk result (λ count. (all : List MatchValue)
-        × AreMatches search.now options line.now 0 all
-        × Appends (W.contents writer.old.inner) (W.contents writer.new.inner)
-        (printed_matches options name.now number offset line.now all) × (count ≡ min 1 (length all))) }
-    ensures error { IfErr result (IsWriteFault writer.new.failure) }
-{
-    let mut count = 0;
-    let mut from = 0;
-    while let Some(found) = next_asked(search, options, line, from) {
-        let start = offset + found.start() as u64;
-        print_match(options, name, number, start, found.span().of(line), writer)?;
-        count = 1;
-        from = found.end();
-    }
-    Ok(count)
-}
-
-/// Prints a match in a line, as a line of its own.
-fn print_match<W: Write>(
-    options: Options,
-    name: &[u8],
-    number: u64,
-    offset: u64,
-    bytes: &[u8],
-    writer: &mut Device<W>,
-) -> Result<(), Fault>
-    ensures printed { OnOk result (Appends (W.contents writer.old.inner) (W.contents writer.new.inner)
-        (printed_part options name.now number offset (printed_match options bytes.now))) }
-    ensures error { IfErr result (IsWriteFault writer.new.failure) }
-{
-    print_head(options, name, number, offset, writer)?;
-    print_colored(options, MATCH, bytes, writer)?;
-    writer.write_all(b"\n")
-}
-
-/// Prints a line that counts, with the matches in it in colours where these are asked for.
-fn print_line<W: Write>(
-    search: &Search,
-    options: Options,
-    name: &[u8],
-    number: u64,
-    offset: u64,
-    line: &[u8],
-    writer: &mut Device<W>,
-) -> Result<(), Fault>
-    requires { search.now.query.kind ≡ LeftmostLongest }
-    ensures printed { OnOk result ((out : List ℕ)
-        × Appends (W.contents writer.old.inner) (W.contents writer.new.inner) out
-        × PrintsWhole (is_colored options) search.now options name.now number offset line.now out) }
-    ensures error { IfErr result (IsWriteFault writer.new.failure) }
-{
-    if !options.is_colored() {
-        return print_part(options, name, number, offset, line, writer);
-    }
-    print_head(options, name, number, offset, writer)?;
-    print_marked(search, options, line, writer)?;
-    writer.write_all(b"\n")
-}
-
-/// Prints a line.
-fn print_part<W: Write>(
-    options: Options,
-    name: &[u8],
-    number: u64,
-    offset: u64,
-    bytes: &[u8],
-    writer: &mut Device<W>,
-) -> Result<(), Fault>
-    ensures printed { OnOk result (Appends (W.contents writer.old.inner) (W.contents writer.new.inner)
-        (printed_part options name.now number offset bytes.now)) }
-    ensures error { IfErr result (IsWriteFault writer.new.failure) }
-{
-    print_head(options, name, number, offset, writer)?;
-    writer.write_all(bytes)?;
-    writer.write_all(b"\n")
-}
-
-/// Prints a line with the matches in it in colours.
-fn print_marked<W: Write>(
-    search: &Search,
-    options: Options,
-    line: &[u8],
-    writer: &mut Device<W>,
-) -> Result<(), Fault>
-    requires { search.now.query.kind ≡ LeftmostLongest }
-    ensures printed { OnOk result ((all : List MatchValue) × AreMatches search.now options line.now 0 all
-        × Appends (W.contents writer.old.inner) (W.contents writer.new.inner)
-        (marked_from options line.now 0 all)) }
-    ensures error { IfErr result (IsWriteFault writer.new.failure) }
-{
-    let mut from = 0;
-    while let Some(found) = next_asked(search, options, line, from) {
-        writer.write_all(&line[from..found.start()])?;
-        print_colored(options, MATCH, found.span().of(line), writer)?;
-        from = found.end();
-    }
-    writer.write_all(&line[from..])
-}
-
-/// Prints what stands in front of a line, or of a match.
-fn print_head<W: Write>(
-    options: Options,
-    name: &[u8],
-    number: u64,
-    offset: u64,
-    writer: &mut Device<W>,
-) -> Result<(), Fault>
-    ensures printed { OnOk result (Appends (W.contents writer.old.inner) (W.contents writer.new.inner)
-        (printed_head options name.now number offset)) }
-    ensures error { IfErr result (IsWriteFault writer.new.failure) }
-{
-    print_name(options, name, writer)?;
-    if options.numbers {
-        print_number(options, number, writer)?;
-    }
-    if options.offsets {
-        print_number(options, offset, writer)?;
-    }
-    Ok(())
 }

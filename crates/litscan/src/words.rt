@@ -117,10 +117,10 @@ fn add_file(rt: &HostRuntime, name: &[u8], words: &mut Vec<Vec<u8>>) -> Result<(
     ensures error { IfErr result StopsWords }
 {
     if is_input(name) {
-        return add_told(rt, name, buffered(rt.alloc(), rt.stdin())?, words);
+        return add_told(rt, name, buffered(rt.alloc(), rt.stdin(), false)?, words);
     }
     match open(rt, name) {
-        Ok(file) => add_told(rt, name, buffered(rt.alloc(), file)?, words),
+        Ok(file) => add_told(rt, name, buffered(rt.alloc(), file, false)?, words),
         Err(ErrorKind::OutOfMemory) => Err(Fault::OutOfMemory),
         Err(kind) => {
             tell(rt, name, kind);

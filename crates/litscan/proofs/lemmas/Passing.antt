@@ -1,7 +1,7 @@
 -- Lines that are passed over. For `passed`, `device` and `scan`.
 use Rattle.std.proofs.Common.{◌≡◌, ◌≢◌, ◌⊎◌, ◌+◌, ◌-◌, ◌<◌, ◌≤◌, ◌==◌, ℕ, Bool, List, [], ◌∷◌, ◌++◌}
 use Rattle.std.proofs.Common.{None, Option, Some, false, get_or, length, take-append-drop, true}
-use Rattle.std.proofs.KnownBytes.{Appends-trans, Consumes-trans}
+use Rattle.std.proofs.KnownBytes.{Appends-kept, Appends-trans, Consumes-trans}
 use Rattle.std.proofs.lemmas.Bool.{cases_Bool, cases_lt}
 use Rattle.std.proofs.Common.{append-nil, append_assoc, ap, arith, cond, drop, inl, inr, length-append, refl}
 use Rattle.std.proofs.Common.{slice_range, subst, sym, take, ◌∙◌}
@@ -14,7 +14,7 @@ use Rattle.std.proofs.lemmas.List.Elements.{All-append, All-cons, All-head, All-
 use Rattle.std.proofs.lemmas.List.Sums.{count_by-le-length, sum_by-append, sum_by-cons, sum_by-take-le}
 use Rattle.std.proofs.Math.Seq.{drop-append-add, drop-append_seam, take-add, take-append-add, take-append_seam}
 use Rattle.std.proofs.lemmas.Grind.{flat_map-append}
-use Rattle.std.specs.Io.KnownBytes.{Appends, Consumes, IsAtEnd, prepend_known}
+use Rattle.std.specs.Io.KnownBytes.{Appends, Consumes, IsAtEnd, Keeps, prepend_known}
 use Rattle.std.specs.List.{All, count_by, flat_map}
 use Rattle.literal_base.specs.Occurs.{Occurs, case_folded, pattern_at, whole_of}
 use Rattle.literal_base.specs.MatchValue.{MatchValue}
@@ -337,6 +337,22 @@ pub record SoFar (search : SearchValue) (options : Options) (name : List ℕ) (o
   pub counted : count ≡ count_by (counts search options) seen
   pub written_are : Appends written now out
   pub printed : PrintsUnlessSilent (is_silent options) search options name 1 0 seen out
+
+-- nothing was written since
+pub kept_so_far : {search : SearchValue} {options : Options} {name : List ℕ} {old new written now : Option (List ℕ)}
+    {seen : List (List ℕ)} {out : List ℕ} {count lines offset : ℕ}
+    → SoFar search options name old new written now seen out count lines offset → (next : Option (List ℕ))
+    → Keeps now next → SoFar search options name old new written next seen out count lines offset
+kept_so_far {written = written} {now = now} {out = out} is next kept = record {
+  whole = is.whole;
+  read = is.read;
+  lines_are = is.lines_are;
+  offset_is = is.offset_is;
+  stops = is.stops;
+  counted = is.counted;
+  written_are = Appends-kept written now next out is.written_are kept;
+  printed = is.printed;
+}
 
 -- no more lines count than there are, and no more are there than bytes
 pub few_so_far : {search : SearchValue} {options : Options} {name : List ℕ} {old new written now : Option (List ℕ)}

@@ -4,6 +4,7 @@ use Rattle.std.proofs.Common.{Option, None, Some, inl, inr}
 use Rattle.std.proofs.Common.{refl, sym, ap, ◌∙◌, arith, subst, append_assoc, append-nil, length-append}
 use Rattle.std.specs.List.{count_by, flat_map}
 use Rattle.std.proofs.lemmas.Bool.{cases_Bool, cond-false, cond-true}
+use Rattle.std.proofs.lemmas.List.{flat_map_more}
 use Rattle.std.proofs.lemmas.List.Sums.{sum_by-append}
 use Rattle.std.specs.Option.{is_some}
 use Rattle.literal_base.specs.MatchValue.{MatchValue}
@@ -40,11 +41,18 @@ not_asked true only others loud = absurd (cc)
 not_asked false true others loud = (refl, λ asked. loud)
 not_asked false false others loud = (refl, λ asked. absurd (cc))
 
-length-feeds : (line : List ℕ) (more : List (List ℕ))
+pub length-feeds : (line : List ℕ) (more : List (List ℕ))
     → length (with_feed line ++ flat_map with_feed more) ≡ length line + 1 + length (flat_map with_feed more)
 length-feeds line more =
     length-append (with_feed line) (flat_map with_feed more)
     ∙ ap (λ n. n + length (flat_map with_feed more)) (length-append line (10 ∷ []))
+
+pub length-feeds_push : (seen : List (List ℕ)) (line : List ℕ)
+    → length (flat_map with_feed (seen ++ line ∷ [])) ≡ length (flat_map with_feed seen) + (length line + 1)
+length-feeds_push seen line =
+    ap (λ (l : List ℕ). length l) (sym (flat_map_more with_feed [] seen line))
+    ∙ length-append (flat_map with_feed seen) (with_feed line)
+    ∙ ap (λ n. length (flat_map with_feed seen) + n) (length-append line (10 ∷ []))
 
 module _ (search : SearchValue) (options : Options) (name : List ℕ) where
   -- one list of lines behind another

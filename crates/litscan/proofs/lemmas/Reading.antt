@@ -1,5 +1,5 @@
 -- What is read line by line is the text, and its lines are those that were read. For `lines` and `scan`.
-use Rattle.std.proofs.Common.{◌≡◌, ◌==◌, ℕ, Bool, true, false, List, [], ◌∷◌, ◌++◌, cond}
+use Rattle.std.proofs.Common.{◌≡◌, ◌≢◌, ◌⊎◌, ◌==◌, ℕ, Bool, true, false, List, [], ◌∷◌, ◌++◌, cond}
 use Rattle.std.proofs.Common.{◌+◌, ◌≤◌, ◌^◌, Option, None, Some, Result, Ok, Err, IfOk, MatchResult, arith, length}
 use Rattle.std.proofs.Common.{length-append, take}
 use Rattle.std.proofs.Common.{refl, sym, ap, ◌∙◌, inl, inr, subst}
@@ -13,11 +13,13 @@ use Rattle.std.proofs.lemmas.Bool.{cases_eq, cases_lt, cond-false, cond-true, eq
 use Rattle.std.proofs.lemmas.List.{append-nil, flat_map_more, take-append-le}
 use Rattle.std.proofs.Math.Seq.{take-append_seam}
 use Rattle.std.proofs.lemmas.List.Elements.{All-head, All-tail}
-use Rattle.litscan.specs.Fault.{IsReadFault}
+use Rattle.std.specs.declared.io.ErrorKind.TheVariants as kind
+use Rattle.litscan.specs.Fault.{IsReadFault, StopsRead, read_fault}
 use Rattle.litscan.specs.Lines.{HasNoFeed, last_line, with_feed}
 use Rattle.litscan.specs.Inside.Passed.{lines_read}
 use Rattle.litscan.specs.Options.{is_enough}
-use Rattle.litscan.specs.Printed.{BeginsWith, Reads, ReadsAll, ReadsTooMany, StopsAtEnough}
+use Rattle.litscan.specs.Printed.{BeginsWith, Reads, ReadsAll, ReadsTooMany, StopsAtEnough, StopsScan}
+use Rattle.litscan.specs.declared.fault.Fault.TheVariants.{OutOfMemory, ReadFailed}
 use Rattle.litscan.specs.declared.fault.Fault.{Fault}
 use Rattle.litscan.proofs.lemmas.Lines.{Other}
 
@@ -64,6 +66,33 @@ reads_front None enough old mid new text some read = absurd (cc)
 pub read_failed : (failure : Option ErrorKind) (fault : Fault) → IsReadFault failure fault → IsSome failure
 read_failed (Some error) fault is = refl
 read_failed None fault is = absurd (cc)
+
+-- the fault of a read is one of two
+either_fault : (error : ErrorKind) → (read_fault error ≡ OutOfMemory) ⊎ (read_fault error ≡ ReadFailed)
+either_fault kind.OutOfMemory = inl refl
+either_fault _ = inr refl
+
+-- where a read failed, and not a write, its error is left behind
+pub read_failed_if : (read write : Option ErrorKind) (fault : Fault) → StopsRead read write fault → fault ≡ ReadFailed
+    → IsSome read
+read_failed_if read write fault (inl is) failed = read_failed read fault is
+read_failed_if read None fault (inr is) failed = absurd (cc)
+read_failed_if read (Some kind.BrokenPipe) fault (inr is) failed = absurd (cc)
+read_failed_if read (Some _) fault (inr is) failed = absurd (cc)
+
+-- any other fault stops a scan
+pub stops_scan : (read write : Option ErrorKind) (fault : Fault) → StopsRead read write fault → fault ≢ ReadFailed
+    → StopsScan read write fault
+stops_scan read write fault (inr is) other = inr is
+stops_scan None write fault (inl is) other = absurd (cc)
+stops_scan (Some error) write fault (inl is) other =
+    elim (either_fault error) [
+      | inl refused ↦ inl (is, some_same (sym is) ∙ refused)
+      | inr failed ↦ absurd (other (some_same (sym is) ∙ failed))
+    ]
+  where
+    some_same : {a b : Fault} → Some a ≡ Some b → a ≡ b
+    some_same same = cc
 
 -- a text that was read until enough lines count
 pub reads_enough : (enough : Bool) (old new : Option (List ℕ)) (text : List ℕ) → enough ≡ true

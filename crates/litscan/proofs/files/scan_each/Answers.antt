@@ -1,15 +1,22 @@
-use Rattle.std.proofs.Common.{◌≡◌, ◌∙◌, ◌++◌, ◌∷◌, ◌||◌, [], Bool, List, true, false, ap, drop, map, nat_lt, refl}
+use Rattle.std.proofs.Common.{◌≡◌, ◌∙◌, ◌++◌, ◌∷◌, ◌||◌, [], Bool, List, Option, ℕ, true, false, ap, drop, map}
+use Rattle.std.proofs.Common.{nat_lt, refl}
 use Rattle.std.proofs.Common.{subst, sym, take}
 use Rattle.std.proofs.Common.{take-append-drop}
 use Rattle.std.proofs.KnownBytes.{Appends-trans}
 use Rattle.std.proofs.lemmas.List.{flat_map_more, map-append, map_more, map_push}
-use Rattle.std.proofs.lemmas.List.Elements.{All-push}
 use Rattle.std.proofs.lemmas.List.Folds.{list_any-append}
 use Rattle.std.specs.Io.KnownBytes.{Appends}
 use Rattle.std.specs.List.{flat_map, list_any}
 use Rattle.std.specs.Option.{is_some}
-use Rattle.litscan.specs.Files.{PrintsFile, Searched}
+use Rattle.literal_search.specs.SearchValue.{SearchValue}
+use Rattle.litscan.specs.Files.{PrintsFile, PrintsFiles, Searched}
+use Rattle.litscan.specs.declared.input.FileId.{FileId}
+use Rattle.litscan.specs.declared.options.Options.{Options}
 use Rattle.litscan.proofs.files.scan_each.Goals as goal
+
+or_none : (b : Bool) → (b || false) ≡ b
+or_none true = refl
+or_none false = refl
 
 -- one element more
 any_more : (test : Searched → Bool) (xs : List Searched) (x : Searched) (b : Bool) → b ≡ list_any test xs
@@ -21,6 +28,29 @@ any_more test xs x b is =
     alone : (b : Bool) → (b || false) ≡ b
     alone true = refl
     alone false = refl
+
+-- one file more
+module _ (search : SearchValue) (options : Options) (separator : List ℕ) (output : Option FileId) where
+  prints_push : (any last : Bool) (all : List Searched) (one : Searched)
+      → last ≡ (any || list_any (λ one. nat_lt 0 one.scanned.count) all)
+      → PrintsFiles search options separator output any all
+      → PrintsFile search options separator last output one.name one.text one.scanned one.out
+      → PrintsFiles search options separator output any (all ++ one ∷ [])
+  prints_push any last [] one is printed more = (
+    subst (λ b. PrintsFile search options separator b output one.name one.text one.scanned one.out)
+        (is ∙ or_none any) more,
+    tt,
+  )
+  prints_push any last (first ∷ rest) one is printed more =
+      let some = nat_lt 0 first.scanned.count in (
+        printed.0,
+        prints_push (any || some) last rest one
+            (is ∙ or_assoc any some (list_any (λ one. nat_lt 0 one.scanned.count) rest)) printed.1 more,
+      )
+    where
+      or_assoc : (a b c : Bool) → (a || (b || c)) ≡ ((a || b) || c)
+      or_assoc true b c = refl
+      or_assoc false b c = refl
 
 pub returns-then-found-clause-searched : goal.returns-then-found-clause-searched
 returns-then-found-clause-searched g c =
@@ -48,7 +78,7 @@ loop-name-preserved g c =
     let got = c.in_ok-scanned.ensures.printed in
     let names = c.args.names.now in
     let item = c.name-item.result in
-    let prints = PrintsFile c.args.search.now c.args.options c.args.output in
+    let prints = PrintsFile c.args.search.now c.args.options c.args.separator.now c.loop-name.found.any c.args.output in
     let one : Searched =
     record { name = item.items; text = got.0; scanned = c.in_ok-scanned.scanned; out = got.1 } in
     record {
@@ -59,7 +89,8 @@ loop-name-preserved g c =
           (sym c.name-item.is) ∙ ap (λ front. front ++ item.items ∷ []) so_far.names
           ∙ sym (map_push (λ one. one.name) so_far.all one);
       each =
-          All-push (λ one. prints one.name one.text one.scanned one.out) so_far.all one so_far.each
+          prints_push c.args.search.now c.args.options c.args.separator.now c.args.output false c.loop-name.found.any
+          so_far.all one so_far.any so_far.each
           (subst (λ name. prints name got.0 c.in_ok-scanned.scanned got.1)
           c.as_slice.ensures.value got.2);
       any =

@@ -1,7 +1,8 @@
 use Rattle.std.proofs.Common.{◌≡◌, ◌∙◌, Some, codes, subst, sym}
 use Rattle.std.proofs.lemmas.Bool.{cond-false, cond-true}
 use Rattle.std.proofs.lemmas.Result.{IfOk-weaker}
-use Rattle.litscan.specs.Files.{PrintsText, input_name, is_input}
+use Rattle.litscan.specs.Files.{input_name, is_input}
+use Rattle.litscan.specs.Scans.{Scans}
 use Rattle.litscan.proofs.files.scan_file.Goals as goal
 
 pub returns-then-is_input-clause-printed : goal.returns-then-is_input-clause-printed
@@ -13,7 +14,9 @@ returns-then-is_input-clause-printed g c =
     (λ scanned found. (
       Some found.0,
       found.1,
-      subst (λ name. PrintsText c.args.search.now c.args.options name found.0 scanned found.1) (sym shown) found.3,
+      subst (λ name. Scans c.args.search.now c.args.options c.args.separator.now c.args.any name found.0 scanned
+          found.1)
+          (sym shown) found.2,
       found.4,
     ))
     c.scan_told.ensures.printed
@@ -27,7 +30,9 @@ returns-in_ok-reader-in-Ok-clause-printed g c =
     (λ scanned found. (
       Some found.0,
       found.1,
-      subst (λ name. PrintsText c.args.search.now c.args.options name found.0 scanned found.1) (sym shown) found.3,
+      subst (λ name. Scans c.args.search.now c.args.options c.args.separator.now c.args.any name found.0 scanned
+          found.1)
+          (sym shown) found.2,
       found.4,
     ))
     c.scan_told-in-Ok.ensures.printed

@@ -7,6 +7,6 @@ returns-in_ok-tell_behind-clause-printed g c =
       scanned.0,
       scanned.1,
       scanned.2,
-      (scanned.5, scanned.6, scanned.3),
+      scanned.3,
       Appends-kept _ _ _ scanned.1 scanned.4 c.in_ok-tell_behind.ensures.kept,
     )

@@ -1,14 +1,18 @@
-use Rattle.std.proofs.Common.{◌≡◌, ◌≢◌, ◌+◌, ◌++◌, ◌∷◌, [], ◌∙◌, ℕ, List, Result, Ok, Err, IfOk, Some, None, codes}
+use Rattle.std.proofs.Common.{◌≡◌, ◌≢◌, ◌+◌, ◌||◌, ◌++◌, ◌∷◌, [], ◌∙◌, ℕ, List, Result, Ok, Err, IfOk, Some, None}
+use Rattle.std.proofs.Common.{Option}
+use Rattle.std.proofs.Common.{codes}
 use Rattle.std.proofs.Common.{append-nil, append_assoc, ap, arith, false, inl, inr, length, nat_lt, refl, subst}
 use Rattle.std.proofs.Common.{sym, true}
 use Rattle.std.proofs.lemmas.Result.{IfOk-weaker}
 use Rattle.std.specs.Str.{bytes_eq}
-use Rattle.std.proofs.lemmas.Bool.{cases_Bool, cond-false, lt-ltb, ne_eqb, or_cases}
+use Rattle.std.proofs.lemmas.Bool.{cases_Bool, cond-false, lt-ltb, ne_eqb}
 use Rattle.std.proofs.lemmas.Slice.Eq.{bytes_eq-Decides}
-use Rattle.std.specs.Option.{ok_or}
-use Rattle.litscan.specs.Options.{is_color, letter_named, takes_argument, with_letter}
-use Rattle.litscan.specs.Request.{Asked, RequestValue, asked_from, result_and_then, with_any, with_file}
-use Rattle.litscan.specs.Request.{with_letters, with_next}
+use Rattle.std.specs.Char.{is_ascii_digit}
+use Rattle.std.specs.Option.{ok_or, option_map}
+use Rattle.litscan.specs.Options.{behind_number, is_color, is_separator, letter_named, takes_argument}
+use Rattle.litscan.specs.Options.{with_letter, with_plain_letter}
+use Rattle.litscan.specs.Request.{Asked, RequestValue, asked_from, at_front, result_and_then, with_any, with_file}
+use Rattle.litscan.specs.Request.{with_lettered, with_letters, with_next}
 use Rattle.litscan.specs.declared.fault.Fault.{Fault}
 use Rattle.litscan.specs.declared.fault.Fault.TheVariants.{UnknownLetter, UnknownName}
 use Rattle.litscan.specs.declared.options.Options.{Options}
@@ -16,61 +20,87 @@ use Rattle.litscan.specs.declared.request.Next.TheVariants as next
 use Rattle.litscan.proofs.laws.options_are_asked_for.Goals as goal
 
 -- letters behind one that takes no argument
-letters_more : (letter : ℕ) (more : List ℕ) (request : RequestValue) → takes_argument letter ≡ false
-    → with_letters (letter ∷ more) request ≡ result_and_then (with_letters more) (with_letters (letter ∷ []) request)
-letters_more letter more request none =
-    unfolded more ∙ one (ok_or (with_letter request.options letter) (UnknownLetter letter))
-    ∙ ap (result_and_then (with_letters more)) (sym (unfolded []))
-  where
-    with_rest : List ℕ → Options → Asked
-    with_rest rest options = with_letters rest (record request { options = options })
+module _ (letter : ℕ) (request : RequestValue) (none : takes_argument letter ≡ false) where
+  abbrev with_rest : List ℕ → Options → Asked
+  with_rest rest options = with_letters rest (record request { options = options })
 
-    unfolded : (rest : List ℕ) → with_letters (letter ∷ rest) request
-        ≡ result_and_then (with_rest rest) (ok_or (with_letter request.options letter) (UnknownLetter letter))
-    unfolded rest = cond-false (takes_argument letter) _ _ none
+  unfolded : (rest : List ℕ) → with_letters (letter ∷ rest) request
+      ≡ result_and_then (with_rest rest) (ok_or (with_letter request.options letter) (UnknownLetter letter))
+  unfolded rest = cond-false (takes_argument letter) _ _ none
 
-    one : (options : Result Options Fault) → result_and_then (with_rest more) options
-        ≡ result_and_then (with_letters more) (result_and_then (with_rest []) options)
-    one (Ok options) = refl
-    one (Err fault) = refl
+  letters_more : (more : List ℕ)
+      → with_letters (letter ∷ more) request ≡ result_and_then (with_letters more) (with_letters (letter ∷ []) request)
+  letters_more more =
+      unfolded more ∙ one (ok_or (with_letter request.options letter) (UnknownLetter letter))
+      ∙ ap (result_and_then (with_letters more)) (sym (unfolded []))
+    where
+      one : (options : Result Options Fault) → result_and_then (with_rest more) options
+          ≡ result_and_then (with_letters more) (result_and_then (with_rest []) options)
+      one (Ok options) = refl
+      one (Err fault) = refl
+
+  -- behind a letter that is no digit no number goes on
+  abbrev behind_letter : Option Options → Asked
+  behind_letter options =
+      result_and_then (with_rest []) (ok_or (option_map behind_number options) (UnknownLetter letter))
+
+  one_letter : is_ascii_digit letter ≡ false
+      → with_letters (letter ∷ []) request ≡ behind_letter (with_plain_letter request.options letter)
+  one_letter plain =
+      unfolded []
+      ∙ ap (λ options. result_and_then (with_rest []) (ok_or options (UnknownLetter letter)))
+      (cond-false (is_ascii_digit letter) _ _ plain)
 
 -- a word that begins with one dash has letters
 letters_of : (letter : ℕ) (more : List ℕ) (request : RequestValue) → letter ≢ 45
-    → with_any (45 ∷ letter ∷ more) request ≡ with_letters (letter ∷ more) request
+    → with_any (45 ∷ letter ∷ more) request ≡ with_letters (letter ∷ more) (at_front request)
 letters_of letter more request other =
     let several : nat_lt 1 (length (45 ∷ letter ∷ more)) ≡ true =
     lt-ltb 1 (length (45 ∷ letter ∷ more)) (omega arith) in
     rw (ne_eqb letter 45 other, several) refl
 
 pub returns-clause-joined : goal.returns-clause-joined
-returns-clause-joined c = λ letter second more request none other others.
-    letters_of letter (second ∷ more) request other ∙ letters_more letter (second ∷ more) request none
-    ∙ in_a_word second more others (with_letters (letter ∷ []) request)
-    ∙ ap (result_and_then (with_any (45 ∷ second ∷ more))) (sym (letters_of letter [] request other))
+returns-clause-joined c = λ letter second more request none plain other others.
+    let here = at_front request in
+    let one = one_letter letter here none plain in
+    letters_of letter (second ∷ more) request other ∙ letters_more letter here none (second ∷ more)
+    ∙ ap (result_and_then (with_letters (second ∷ more))) one
+    ∙ in_a_word letter here none second more others (with_plain_letter here.options letter)
+    ∙ ap (result_and_then (with_any (45 ∷ second ∷ more))) (sym (letters_of letter [] request other ∙ one))
   where
-    in_a_word : (second : ℕ) (more : List ℕ) → second ≢ 45 → (asked : Asked)
-        → result_and_then (with_letters (second ∷ more)) asked ≡ result_and_then (with_any (45 ∷ second ∷ more)) asked
-    in_a_word second more other (Ok request) = sym (letters_of second more request other)
-    in_a_word second more other (Err fault) = refl
+    in_a_word : (letter : ℕ) (here : RequestValue) (none : takes_argument letter ≡ false) (second : ℕ) (more : List ℕ)
+        → second ≢ 45 → (options : Option Options)
+        → result_and_then (with_letters (second ∷ more)) (behind_letter letter here none options)
+        ≡ result_and_then (with_any (45 ∷ second ∷ more)) (behind_letter letter here none options)
+    in_a_word letter here none second more other (Some options) =
+        sym (letters_of second more (record here { options = behind_number options }) other)
+    in_a_word letter here none second more other None = refl
 
--- a name that has a letter is not that of the option for colours
-not_color : (name : List ℕ) (letter : ℕ) → letter_named name ≡ Some letter → is_color name ≡ false
-not_color name letter is =
-    elim (cases_Bool (is_color name)) [
-      | inl color ↦
-          absurd (elim (or_cases (bytes_eq name (codes "--color")) (bytes_eq name (codes "--colour")) color) [
-            | inl one ↦ has_none (codes "--color") ((bytes_eq-Decides name (codes "--color")).0 one) refl
-            | inr other ↦ has_none (codes "--colour") ((bytes_eq-Decides name (codes "--colour")).0 other) refl
-          ])
+-- a name that has a letter is not one that has none
+not_named : (name known : List ℕ) (letter : ℕ) → letter_named name ≡ Some letter → letter_named known ≡ None
+    → bytes_eq name known ≡ false
+not_named name known letter is none =
+    elim (cases_Bool (bytes_eq name known)) [
+      | inl same ↦
+          let no_letter : Some letter ≡ None =
+          sym is ∙ ap letter_named ((bytes_eq-Decides name known).0 same) ∙ none in absurd (cc)
       | inr other ↦ other
     ]
-  where
-    has_none : (known : List ℕ) → name ≡ known → letter_named known ≡ None → ⊥
-    has_none known same none = let no_letter : Some letter ≡ None = sym is ∙ ap letter_named same ∙ none in absurd (cc)
 
 pub returns-clause-named : goal.returns-clause-named
 returns-clause-named c = λ name letter request is.
-    cond-false (is_color name) _ _ (not_color name letter is)
+    let color = not_named name (codes "--color") letter is refl in
+    let colour = not_named name (codes "--colour") letter is refl in
+    let separator = not_named name (codes "--group-separator") letter is refl in
+    let buffered = not_named name (codes "--line-buffered") letter is refl in
+    let unseparated = not_named name (codes "--no-group-separator") letter is refl in
+    let kept = not_named name (codes "--no-ignore-case") letter is refl in
+    cond-false (is_color name) _ _ (ap (λ b. b || bytes_eq name (codes "--colour")) color ∙ colour)
+    ∙ cond-false (is_separator name) _ _ separator
+    ∙ ap (λ found. with_lettered found name request)
+    (cond-false (bytes_eq name (codes "--line-buffered")) _ _ buffered
+    ∙ cond-false (bytes_eq name (codes "--no-group-separator")) _ _ unseparated
+    ∙ cond-false (bytes_eq name (codes "--no-ignore-case")) _ _ kept)
     ∙ ap (λ found. result_and_then (λ l. with_letters (l ∷ []) request) (ok_or found (UnknownName request.at))) is
 
 -- the files behind two dashes

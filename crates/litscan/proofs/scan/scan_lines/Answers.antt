@@ -10,10 +10,11 @@ use Rattle.litscan.specs.Inside.Passed.{lines_read}
 use Rattle.litscan.specs.Options.{is_enough, is_silent, limit_of}
 use Rattle.litscan.specs.Printed.{PrintsUnlessSilent, counts}
 use Rattle.litscan.specs.declared.options.Options.{Options}
-use Rattle.litscan.proofs.lemmas.Passing.{ended_so_far, failed_so_far, few_so_far, passed_here, read_on}
+use Rattle.litscan.proofs.lemmas.Passing.{ended_so_far, failed_so_far, few_so_far, kept_so_far}
+use Rattle.litscan.proofs.lemmas.Passing.{passed_here, read_on}
 use Rattle.litscan.proofs.lemmas.Passing.{scanned_so_far}
 use Rattle.litscan.proofs.lemmas.Printing.{prints_none}
-use Rattle.litscan.proofs.lemmas.Reading.{begins_with, ok_gives, read_failed, reads_enough}
+use Rattle.litscan.proofs.lemmas.Reading.{begins_with, ok_gives, read_failed_if, reads_enough}
 use Rattle.litscan.proofs.lemmas.Reading.{too_many_with}
 use Rattle.litscan.proofs.scan.scan_lines.Goals as goal
 
@@ -51,7 +52,7 @@ pub loop-options-preserved : goal.loop-options-preserved
 loop-options-preserved g c =
     let no = not_yet c.args.options c.loop-options.count c.is_enough.ensures c.limit.ensures c.if-is_enough.false in
     let next = c.in-Ok.ensures.takes in
-    let here = passed_here c.loop-options.invariant.so_far no next in
+    let here = passed_here (kept_so_far c.loop-options.invariant.so_far _ c.in-Ok.ensures.kept) no next in
     let line = c.next_line.new.line.items in
     let fed = c.in-Ok.next.fed in
     let taken = c.in_ok-taken.ensures.printed in
@@ -84,17 +85,17 @@ returns-then-is_enough-clause-scanned g c =
 
 pub returns-in-Err-clause-scanned : goal.returns-in-Err-clause-scanned
 returns-in-Err-clause-scanned g c =
-    let failed : IsSome c.failure.result =
-    subst IsSome (sym c.failure.ensures)
-    (read_failed c.next_line.new.reader.failure c.in-Err.fault c.in-Err.ensures.error) in
+    let so_far = kept_so_far c.loop-options.invariant.so_far _ c.in-Err.ensures.kept in
+    let stops = c.in-Err.ensures.error in
     ok_gives _ _ _ c.failed_behind.result c.failed_behind.ensures
-    (λ scanned is. failed_so_far c.loop-options.invariant.so_far _ scanned is failed)
+    (λ scanned is. failed_so_far so_far _ scanned is.0
+    (subst IsSome (sym c.failure.ensures) (read_failed_if _ _ c.in-Err.fault stops is.1)))
 
 pub returns-in_default-clause-scanned : goal.returns-in_default-clause-scanned
 returns-in_default-clause-scanned g c =
     let no = not_yet c.args.options c.loop-options.count c.is_enough.ensures c.limit.ensures c.if-is_enough.false in
     let next = c.in-Ok.ensures.takes in
-    let here = passed_here c.loop-options.invariant.so_far no next in
+    let here = passed_here (kept_so_far c.loop-options.invariant.so_far _ c.in-Ok.ensures.kept) no next in
     scanned_so_far here (g.R.Read.remaining c.next_line.new.reader.inner) (Some FileTooLarge)
     (begins_with _ _ (flat_map with_feed (c.loop-options.invariant.seen ++ next.lines)) here.read)
 
@@ -134,7 +135,7 @@ pub returns-then-not-next-clause-scanned : goal.returns-then-not-next-clause-sca
 returns-then-not-next-clause-scanned g c =
     let no = not_yet c.args.options c.loop-options.count c.is_enough.ensures c.limit.ensures c.if-is_enough.false in
     let next = c.in-Ok.ensures.takes in
-    let here = passed_here c.loop-options.invariant.so_far no next in
+    let here = passed_here (kept_so_far c.loop-options.invariant.so_far _ c.in-Ok.ensures.kept) no next in
     let line = c.next_line.new.line.items in
     let fed = c.in-Ok.next.fed in
     let taken = c.in_ok-taken.ensures.printed in

@@ -1,21 +1,20 @@
-use Rattle.std.proofs.Common.{◌≡◌, ◌-◌, ◌≤◌, ◌++◌, List, length, ℕ}
+use Rattle.std.proofs.Common.{◌≡◌, ◌-◌, ◌≤◌, ◌++◌, List, length, min}
 use Rattle.std.specs.Io.KnownBytes.{Appends}
 use Rattle.literal_base.specs.MatchValue.{MatchValue}
 use Rattle.litscan.specs.Asked.{AreMatches}
-use Rattle.litscan.specs.Printed.{marked_from}
-use Rattle.litscan.proofs.scan.print_marked.Given as goal
+use Rattle.litscan.specs.Printed.{printed_matches}
+use Rattle.litscan.proofs.printing.print_matches.Given as goal
 
--- the line up to here is printed; whatever matches there are from here on go on from those so far
+-- the matches so far are printed, and whatever matches there are from here on go on from them
 abbrev pub invariant-loop-found : goal.invariant-loop-found
 invariant-loop-found g l = record {
   all : List MatchValue;
-  out : List ℕ;
   inside : l.from ≤ length l.line;
   goes_on : (more : List MatchValue) → AreMatches l.search l.options l.line l.from more
       → AreMatches l.search l.options l.line 0 (all ++ more);
-  written : Appends (g.W.Write.contents l.fn.writer.inner) (g.W.Write.contents l.writer.inner) out;
-  marked : (more : List MatchValue) → out ++ marked_from l.options l.line l.from more
-      ≡ marked_from l.options l.line 0 (all ++ more);
+  written : Appends (g.W.Write.contents l.fn.writer.inner) (g.W.Write.contents l.writer.inner)
+      (printed_matches l.options l.name l.number l.offset l.line all);
+  counted : l.count ≡ min 1 (length all);
 }
 
 abbrev pub decreases-loop-found : goal.decreases-loop-found

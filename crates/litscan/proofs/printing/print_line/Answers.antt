@@ -3,7 +3,7 @@ use Rattle.std.proofs.KnownBytes.{Appends-trans}
 use Rattle.std.proofs.lemmas.Result.{on_ok_weaker}
 use Rattle.std.specs.Io.KnownBytes.{Appends}
 use Rattle.litscan.specs.Printed.{PrintsWhole, marked_from, printed_head, printed_part}
-use Rattle.litscan.proofs.scan.print_line.Goals as goal
+use Rattle.litscan.proofs.printing.print_line.Goals as goal
 
 -- the line behind what stands in front of it, and a line feed
 in_line : (head line : List ℕ) → (head ++ line) ++ 10 ∷ [] ≡ head ++ (line ++ 10 ∷ [])

@@ -6,7 +6,7 @@ use Rattle.std.specs.Io.KnownBytes.{Appends}
 use Rattle.literal_base.specs.declared.search.Span.{Span}
 use Rattle.litscan.specs.Asked.{AreMatches}
 use Rattle.litscan.specs.Printed.{printed_match, printed_matches, printed_part}
-use Rattle.litscan.proofs.scan.print_matches.Goals as goal
+use Rattle.litscan.proofs.printing.print_matches.Goals as goal
 
 pub loop-found-init : goal.loop-found-init
 loop-found-init g c = record {

@@ -6,7 +6,7 @@ use Rattle.std.specs.Io.KnownBytes.{Appends}
 use Rattle.literal_base.specs.declared.search.Span.{Span}
 use Rattle.litscan.specs.Asked.{AreMatches}
 use Rattle.litscan.specs.Printed.{marked_from, printed_match}
-use Rattle.litscan.proofs.scan.print_marked.Goals as goal
+use Rattle.litscan.proofs.printing.print_marked.Goals as goal
 
 -- what is printed up to a match, and that, and what is behind
 behind : (out before shown rest : List ℕ)

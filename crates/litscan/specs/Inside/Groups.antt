@@ -1,0 +1,60 @@
+-- The state of a scan between two lines, from which groups of lines are printed.
+use Rattle.std.specs.Prelude.{◌≡◌, ◌≤◌, ◌<◌, ℕ, ◌+◌, ◌-◌, ◌++◌, ◌||◌, Bool, true, false, List, [], ◌∷◌, length, map}
+use Rattle.std.specs.Prelude.{if◌then◌else◌, nat_lt, take}
+use Rattle.std.specs.List.{flat_map, list_any}
+use Rattle.literal_search.specs.SearchValue.{SearchValue}
+use Rattle.litscan.specs.Context.{Mark, PrintsGroups, lines_after, lines_before, mark_by}
+use Rattle.litscan.specs.Lines.{with_feed}
+use Rattle.litscan.specs.declared.context.Context.{Context}
+use Rattle.litscan.specs.declared.options.Options.{Options}
+
+-- the lines that are held
+abbrev pub held_of : Context → List (List ℕ)
+held_of context = map (λ line. line.items) context.held.items
+
+-- for each line that it does not count
+abbrev pub none_count : List (List ℕ) → List Bool
+none_count lines = map (λ line. false) lines
+
+-- the marks of lines by whether each counts, where so many of them are near a line before them
+abbrev pub marks_from : ℕ → ℕ → ℕ → List Bool → List Mark
+marks_from before after due [] = []
+marks_from before after due (counts ∷ more) =
+    mark_by counts (nat_lt 0 due || list_any (λ one. one) (take before more))
+    ∷ marks_from before after (if counts then after else due - 1) more
+
+-- what is printed of the lines that are held and of more lines
+abbrev pub PrintsFrom : SearchValue → Options → List ℕ → List ℕ → Context → List (List ℕ) → List Bool → List ℕ
+    → Type 0
+PrintsFrom search options separator name context lines counting out =
+    PrintsGroups search options separator name context.any context.apart context.number context.offset
+    (held_of context ++ lines)
+    (marks_from (lines_before options) (lines_after options) context.due (none_count (held_of context) ++ counting)) out
+
+-- with this in front, what is printed from the new state on is what is printed from the old one on, with one line more
+abbrev pub GoesOn : SearchValue → Options → List ℕ → List ℕ → Context → Context → List ℕ → Bool → List ℕ → Type 0
+GoesOn search options separator name old new line counts out =
+    (lines : List (List ℕ)) (counting : List Bool) (rest : List ℕ)
+    → PrintsFrom search options separator name new lines counting rest
+    → PrintsFrom search options separator name old (line ∷ lines) (counts ∷ counting) (out ++ rest)
+
+-- the number of the next line
+abbrev pub next_number : Context → ℕ
+next_number context = context.number + length (held_of context)
+
+-- its offset
+abbrev pub next_offset : Context → ℕ
+next_offset context = context.offset + length (flat_map with_feed (held_of context))
+
+-- no more lines are held than may be printed, and none is held if the next line is printed
+pub record IsWell (options : Options) (context : Context) : Type 0 where
+  pub few : length (held_of context) ≤ lines_before options
+  pub none : 0 < context.due → held_of context ≡ []
+  pub any : 0 < context.due → context.any ≡ true
+  pub together : 0 < context.due → context.apart ≡ false
+
+-- the new state is that behind one line more
+pub record Follows (options : Options) (old new : Context) (line : List ℕ) : Type 0 where
+  pub well : IsWell options new
+  pub number_is : next_number new ≡ next_number old + 1
+  pub offset_is : next_offset new ≡ next_offset old + length line + 1

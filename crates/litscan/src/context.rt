@@ -1,0 +1,262 @@
+//! Lines that are kept until it is known whether they stand near one that counts.
+ghost use Rattle.std.specs.Prelude.{◌≡◌, ◌≤◌, ◌<◌, ◌+◌, ◌-◌, ◌^◌, ◌++◌, ◌&&◌, ◌⊎◌, ℕ, Bool, List, [], ◌∷◌, length, map};
+ghost use Rattle.std.specs.Prelude.{IfErr, OnOk, if◌then◌else◌, false, nat_lt, true};
+ghost use Rattle.std.specs.Io.KnownBytes.{Appends};
+ghost use Rattle.literal_base.specs.declared.packed.MatchKind.TheVariants.{LeftmostLongest};
+ghost use Rattle.litscan.specs.Context.{Mark, PrintsGroups, lines_after, near, printed_separator};
+ghost use Rattle.litscan.specs.Fault.{IsWriteFault};
+ghost use Rattle.litscan.specs.Inside.Groups.{Follows, GoesOn, IsWell, held_of, next_number, next_offset};
+ghost use Rattle.literal_search.specs.SearchValue.{SearchValue};
+ghost use Rattle.litscan.specs.declared.fault.Fault.TheVariants.{OutOfMemory};
+
+use crate::color::{COLON, print_colored};
+use crate::device::Device;
+use crate::fault::Fault;
+use crate::options::Options;
+use crate::printing::{print_found, print_near};
+use literal_search::Search;
+use std::alloc::Global;
+use std::collections::VecDeque;
+use std::io::Write;
+
+/// The lines that were read last and may yet be printed, and how the next line is printed.
+#[derive(Drop)]
+pub struct Context {
+    /// Lines that are printed only if a line soon after them counts.
+    held: VecDeque<Vec<u8>>,
+    /// The number of the first line that is held, or of the next line.
+    number: u64,
+    /// The offset of that line.
+    offset: u64,
+    /// How many of the next lines are printed since they come after a line that counts.
+    due: u64,
+    /// Whether any line was printed, of this file or an earlier one.
+    any: bool,
+    /// Whether the line before these was not printed.
+    apart: bool,
+}
+
+impl Context {
+    /// At the start of a text, where a line of an earlier file was printed or not.
+    pub fn new(alloc: Global, any: bool) -> Context
+        ensures held { result.held.items ≡ [] }
+        ensures number { result.number ≡ 1 }
+        ensures offset { result.offset ≡ 0 }
+        ensures due { result.due ≡ 0 }
+        ensures any { result.any ≡ any }
+        ensures apart { result.apart ≡ true }
+    {
+        Context {
+            held: VecDeque::new(alloc),
+            number: 1,
+            offset: 0,
+            due: 0,
+            any,
+            apart: true,
+        }
+    }
+
+    /// Whether the next line is printed since it comes after a line that counts.
+    pub fn is_due(&self) -> bool
+        ensures { result ≡ nat_lt 0 self.now.due }
+    {
+        self.due > 0
+    }
+
+    /// Takes the next line, which counts or does not, and prints what is then known to be printed.
+    pub fn take<W: Write>(
+        &mut self,
+        counts: bool,
+        search: &Search,
+        options: Options,
+        separator: &[u8],
+        name: &[u8],
+        line: Vec<u8>,
+        writer: &mut Device<W>,
+    ) -> Result<(), Fault>
+        requires longest { search.now.query.kind ≡ LeftmostLongest }
+        requires well { IsWell options self.old }
+        requires number { next_number self.old + 1 < 2 ^ 64 }
+        requires offset { next_offset self.old + length line.items + 1 < 2 ^ 64 }
+        ensures printed { OnOk result ((out : List ℕ)
+            × Appends (W.contents writer.old.inner) (W.contents writer.new.inner) out
+            × GoesOn search.now options separator.now name.now self.old self.new line.items counts out) }
+        ensures follows { OnOk result (Follows options self.old self.new line.items) }
+        ensures due { OnOk result (self.new.due ≡ (if counts then lines_after options else self.old.due - 1)) }
+        ensures error { IfErr result (λ fault. IsWriteFault writer.new.failure fault ⊎ (fault ≡ OutOfMemory)) }
+    {
+        if counts {
+            return self.print_counted(search, options, separator, name, line.as_slice(), writer);
+        }
+        if self.due > 0 {
+            return self.print_due(search, options, name, line.as_slice(), writer);
+        }
+        self.hold(options, line)
+    }
+
+    /// Prints the next line, which counts, behind a separator, where one is due, and the lines that are held.
+    fn print_counted<W: Write>(
+        &mut self,
+        search: &Search,
+        options: Options,
+        separator: &[u8],
+        name: &[u8],
+        line: &[u8],
+        writer: &mut Device<W>,
+    ) -> Result<(), Fault>
+        requires longest { search.now.query.kind ≡ LeftmostLongest }
+        requires well { IsWell options self.old }
+        requires number { next_number self.old + 1 < 2 ^ 64 }
+        requires offset { next_offset self.old + length line.now + 1 < 2 ^ 64 }
+        ensures printed { OnOk result ((out : List ℕ)
+            × Appends (W.contents writer.old.inner) (W.contents writer.new.inner) out
+            × GoesOn search.now options separator.now name.now self.old self.new line.now true out) }
+        ensures follows { OnOk result (Follows options self.old self.new line.now) }
+        ensures due { OnOk result (self.new.due ≡ lines_after options) }
+        ensures error { IfErr result (IsWriteFault writer.new.failure) }
+    {
+        self.print_separator(options, separator, writer)?;
+        self.print_held(search, options, name, writer)?;
+        print_found(
+            search,
+            options,
+            name,
+            self.number,
+            self.offset,
+            line,
+            writer,
+        )?;
+        self.advance(line.len());
+        self.due = options.lines_after();
+        Ok(())
+    }
+
+    /// Prints a separator, if lines were left out since the last one that was printed.
+    fn print_separator<W: Write>(
+        &mut self,
+        options: Options,
+        separator: &[u8],
+        writer: &mut Device<W>,
+    ) -> Result<(), Fault>
+        ensures printed { OnOk result (Appends (W.contents writer.old.inner) (W.contents writer.new.inner)
+            (if self.old.any && self.old.apart then printed_separator options separator.now else [])) }
+        ensures new { OnOk result (self.new ≡ record self.old { any = true; apart = false }) }
+        ensures error { IfErr result (IsWriteFault writer.new.failure) }
+    {
+        if options.separated && self.any && self.apart {
+            print_colored(options, COLON, separator, writer)?;
+            writer.write_all(b"\n")?;
+        }
+        self.any = true;
+        self.apart = false;
+        Ok(())
+    }
+
+    /// Prints the lines that are held.
+    fn print_held<W: Write>(
+        &mut self,
+        search: &Search,
+        options: Options,
+        name: &[u8],
+        writer: &mut Device<W>,
+    ) -> Result<(), Fault>
+        requires longest { search.now.query.kind ≡ LeftmostLongest }
+        requires number { next_number self.old < 2 ^ 64 }
+        requires offset { next_offset self.old < 2 ^ 64 }
+        ensures printed { OnOk result ((out : List ℕ)
+            × Appends (W.contents writer.old.inner) (W.contents writer.new.inner) out
+            × ((separator : List ℕ) (lines : List (List ℕ)) (marks : List Mark) (rest : List ℕ)
+            → PrintsGroups search.now options separator name.now true false self.new.number self.new.offset lines marks
+            rest → PrintsGroups search.now options separator name.now true false self.old.number self.old.offset
+            (held_of self.old ++ lines) (map (λ line. near) (held_of self.old) ++ marks) (out ++ rest))) }
+        ensures held { OnOk result (self.new.held.items ≡ []) }
+        ensures number { OnOk result (self.new.number ≡ next_number self.old) }
+        ensures offset { OnOk result (self.new.offset ≡ next_offset self.old) }
+        ensures any { self.new.any ≡ self.old.any }
+        ensures apart { self.new.apart ≡ self.old.apart }
+        ensures error { IfErr result (IsWriteFault writer.new.failure) }
+    {
+        while let Some(line) = self.held.pop_front() {
+            print_near(
+                search,
+                options,
+                name,
+                self.number,
+                self.offset,
+                line.as_slice(),
+                writer,
+            )?;
+            self.advance(line.len());
+        }
+        Ok(())
+    }
+
+    /// Prints the next line, which comes after one that counts.
+    fn print_due<W: Write>(
+        &mut self,
+        search: &Search,
+        options: Options,
+        name: &[u8],
+        line: &[u8],
+        writer: &mut Device<W>,
+    ) -> Result<(), Fault>
+        requires longest { search.now.query.kind ≡ LeftmostLongest }
+        requires due { 0 < self.old.due }
+        requires well { IsWell options self.old }
+        requires number { next_number self.old + 1 < 2 ^ 64 }
+        requires offset { next_offset self.old + length line.now + 1 < 2 ^ 64 }
+        ensures printed { OnOk result ((out : List ℕ)
+            × Appends (W.contents writer.old.inner) (W.contents writer.new.inner) out
+            × ((separator : List ℕ)
+            → GoesOn search.now options separator name.now self.old self.new line.now false out)) }
+        ensures follows { OnOk result (Follows options self.old self.new line.now) }
+        ensures due { OnOk result (self.new.due ≡ self.old.due - 1) }
+        ensures error { IfErr result (IsWriteFault writer.new.failure) }
+    {
+        print_near(
+            search,
+            options,
+            name,
+            self.number,
+            self.offset,
+            line,
+            writer,
+        )?;
+        self.advance(line.len());
+        self.due -= 1;
+        Ok(())
+    }
+
+    /// Holds the next line, which may stand before one that counts, and lets go of one if too many are held.
+    fn hold(&mut self, options: Options, line: Vec<u8>) -> Result<(), Fault>
+        requires due { self.old.due ≡ 0 }
+        requires well { IsWell options self.old }
+        requires number { next_number self.old + 1 < 2 ^ 64 }
+        requires offset { next_offset self.old + length line.items + 1 < 2 ^ 64 }
+        ensures goes_on { OnOk result ((search : SearchValue) (separator name : List ℕ)
+            → GoesOn search options separator name self.old self.new line.items false []) }
+        ensures follows { OnOk result (Follows options self.old self.new line.items) }
+        ensures due { self.new.due ≡ 0 }
+        ensures error { IfErr result (λ fault. fault ≡ OutOfMemory) }
+    {
+        self.held.push_back(line).or(Err(Fault::OutOfMemory))?;
+        if self.held.len() as u64 <= options.lines_before() {
+            return Ok(());
+        }
+        if let Some(first) = self.held.pop_front() {
+            self.advance(first.len());
+            self.apart = true;
+        }
+        Ok(())
+    }
+
+    /// Goes on from a line that has so many bytes to the next one.
+    fn advance(&mut self, len: usize)
+        requires number { self.old.number + 1 < 2 ^ 64 }
+        requires offset { self.old.offset + len + 1 < 2 ^ 64 }
+        ensures { self.new ≡ record self.old { number = self.old.number + 1; offset = self.old.offset + len + 1 } }
+    {
+        self.number += 1;
+        self.offset += len as u64 + 1;
+    }
+}

@@ -1,0 +1,224 @@
+//! What is printed of a line.
+ghost use Rattle.std.specs.Prelude.{◌≡◌, ◌<◌, ◌+◌, ◌^◌, ℕ, List, length, min};
+ghost use Rattle.std.specs.Prelude.{IfErr, IfOk, OnOk};
+ghost use Rattle.std.specs.Io.KnownBytes.{Appends};
+ghost use Rattle.literal_base.specs.MatchValue.{MatchValue};
+ghost use Rattle.literal_base.specs.declared.packed.MatchKind.TheVariants.{LeftmostLongest};
+ghost use Rattle.litscan.specs.Asked.{AreMatches};
+ghost use Rattle.litscan.specs.Context.{PrintsNear};
+ghost use Rattle.litscan.specs.Fault.{IsWriteFault};
+ghost use Rattle.litscan.specs.Options.{is_colored};
+ghost use Rattle.litscan.specs.Printed.{PrintsFound, PrintsWhole, marked_from, printed_head, printed_match};
+ghost use Rattle.litscan.specs.Printed.{printed_matches, printed_name, printed_part};
+
+use crate::asked::next_asked;
+use crate::color::{MATCH, NAME, print_colon, print_colored, print_number};
+use crate::device::Device;
+use crate::fault::Fault;
+use crate::options::Options;
+use literal_search::Search;
+use std::io::Write;
+
+/// Prints a line that counts: all of it, or its matches.
+pub fn print_found<W: Write>(
+    search: &Search,
+    options: Options,
+    name: &[u8],
+    number: u64,
+    offset: u64,
+    line: &[u8],
+    writer: &mut Device<W>,
+) -> Result<(), Fault>
+    requires longest { search.now.query.kind ≡ LeftmostLongest }
+    requires inside { offset + length line.now < 2 ^ 64 }
+    ensures printed { OnOk result ((out : List ℕ)
+        × Appends (W.contents writer.old.inner) (W.contents writer.new.inner) out
+        × PrintsFound options.only search.now options name.now number offset line.now out) }
+    ensures error { IfErr result (IsWriteFault writer.new.failure) }
+{
+    if options.only {
+        print_matches(search, options, name, number, offset, line, writer)?;
+        return Ok(());
+    }
+    print_line(search, options, name, number, offset, line, writer)
+}
+
+/// Prints a line near one that counts. It has matches only if the lines without a word count.
+pub fn print_near<W: Write>(
+    search: &Search,
+    options: Options,
+    name: &[u8],
+    number: u64,
+    offset: u64,
+    line: &[u8],
+    writer: &mut Device<W>,
+) -> Result<(), Fault>
+    requires longest { search.now.query.kind ≡ LeftmostLongest }
+    requires inside { offset + length line.now < 2 ^ 64 }
+    ensures printed { OnOk result ((out : List ℕ)
+        × Appends (W.contents writer.old.inner) (W.contents writer.new.inner) out
+        × PrintsNear options.others search.now options name.now number offset line.now out) }
+    ensures error { IfErr result (IsWriteFault writer.new.failure) }
+{
+    let near = options.as_context();
+    if options.others {
+        return print_found(search, near, name, number, offset, line, writer);
+    }
+    if options.only {
+        return Ok(());
+    }
+    print_part(near, name, number, offset, line, writer)
+}
+
+/// Prints the matches in a line, each as a line of its own. Answers 1 if there is one, and else 0.
+pub fn print_matches<W: Write>(
+    search: &Search,
+    options: Options,
+    name: &[u8],
+    number: u64,
+    offset: u64,
+    line: &[u8],
+    writer: &mut Device<W>,
+) -> Result<u64, Fault>
+    requires longest { search.now.query.kind ≡ LeftmostLongest }
+    requires inside { offset + length line.now < 2 ^ 64 }
+    ensures printed { IfOk result (λ count. (all : List MatchValue)
+        × AreMatches search.now options line.now 0 all
+        × Appends (W.contents writer.old.inner) (W.contents writer.new.inner)
+        (printed_matches options name.now number offset line.now all) × (count ≡ min 1 (length all))) }
+    ensures error { IfErr result (IsWriteFault writer.new.failure) }
+{
+    let mut count = 0;
+    let mut from = 0;
+    while let Some(found) = next_asked(search, options, line, from) {
+        let start = offset + found.start() as u64;
+        print_match(options, name, number, start, found.span().of(line), writer)?;
+        count = 1;
+        from = found.end();
+    }
+    Ok(count)
+}
+
+/// Prints a match in a line, as a line of its own.
+fn print_match<W: Write>(
+    options: Options,
+    name: &[u8],
+    number: u64,
+    offset: u64,
+    bytes: &[u8],
+    writer: &mut Device<W>,
+) -> Result<(), Fault>
+    ensures printed { OnOk result (Appends (W.contents writer.old.inner) (W.contents writer.new.inner)
+        (printed_part options name.now number offset (printed_match options bytes.now))) }
+    ensures error { IfErr result (IsWriteFault writer.new.failure) }
+{
+    print_head(options, name, number, offset, writer)?;
+    print_colored(options, MATCH, bytes, writer)?;
+    writer.write_all(b"\n")
+}
+
+/// Prints a line that counts, with the matches in it in colours where these are asked for.
+pub fn print_line<W: Write>(
+    search: &Search,
+    options: Options,
+    name: &[u8],
+    number: u64,
+    offset: u64,
+    line: &[u8],
+    writer: &mut Device<W>,
+) -> Result<(), Fault>
+    requires { search.now.query.kind ≡ LeftmostLongest }
+    ensures printed { OnOk result ((out : List ℕ)
+        × Appends (W.contents writer.old.inner) (W.contents writer.new.inner) out
+        × PrintsWhole (is_colored options) search.now options name.now number offset line.now out) }
+    ensures error { IfErr result (IsWriteFault writer.new.failure) }
+{
+    if !options.is_colored() {
+        return print_part(options, name, number, offset, line, writer);
+    }
+    print_head(options, name, number, offset, writer)?;
+    print_marked(search, options, line, writer)?;
+    writer.write_all(b"\n")
+}
+
+/// Prints a line.
+pub fn print_part<W: Write>(
+    options: Options,
+    name: &[u8],
+    number: u64,
+    offset: u64,
+    bytes: &[u8],
+    writer: &mut Device<W>,
+) -> Result<(), Fault>
+    ensures printed { OnOk result (Appends (W.contents writer.old.inner) (W.contents writer.new.inner)
+        (printed_part options name.now number offset bytes.now)) }
+    ensures error { IfErr result (IsWriteFault writer.new.failure) }
+{
+    print_head(options, name, number, offset, writer)?;
+    writer.write_all(bytes)?;
+    writer.write_all(b"\n")
+}
+
+/// Prints a line with the matches in it in colours.
+fn print_marked<W: Write>(
+    search: &Search,
+    options: Options,
+    line: &[u8],
+    writer: &mut Device<W>,
+) -> Result<(), Fault>
+    requires { search.now.query.kind ≡ LeftmostLongest }
+    ensures printed { OnOk result ((all : List MatchValue) × AreMatches search.now options line.now 0 all
+        × Appends (W.contents writer.old.inner) (W.contents writer.new.inner)
+        (marked_from options line.now 0 all)) }
+    ensures error { IfErr result (IsWriteFault writer.new.failure) }
+{
+    let mut from = 0;
+    while let Some(found) = next_asked(search, options, line, from) {
+        writer.write_all(&line[from..found.start()])?;
+        print_colored(options, MATCH, found.span().of(line), writer)?;
+        from = found.end();
+    }
+    writer.write_all(&line[from..])
+}
+
+/// Prints what stands in front of a line, or of a match.
+fn print_head<W: Write>(
+    options: Options,
+    name: &[u8],
+    number: u64,
+    offset: u64,
+    writer: &mut Device<W>,
+) -> Result<(), Fault>
+    ensures printed { OnOk result (Appends (W.contents writer.old.inner) (W.contents writer.new.inner)
+        (printed_head options name.now number offset)) }
+    ensures error { IfErr result (IsWriteFault writer.new.failure) }
+{
+    print_name(options, name, writer)?;
+    if options.numbers {
+        print_number(options, number, writer)?;
+    }
+    if options.offsets {
+        print_number(options, offset, writer)?;
+    }
+    Ok(())
+}
+
+/// Prints the name of a file and a colon, where that is asked for.
+pub fn print_name<W: Write>(
+    options: Options,
+    name: &[u8],
+    writer: &mut Device<W>,
+) -> Result<(), Fault>
+    ensures printed { OnOk result (Appends (W.contents writer.old.inner) (W.contents writer.new.inner)
+        (printed_name options name.now)) }
+    ensures error { IfErr result (IsWriteFault writer.new.failure) }
+{
+    if !options.named.unwrap_or(false) {
+        return Ok(());
+    }
+    print_colored(options, NAME, name, writer)?;
+    if options.zero {
+        return writer.write_all(b"\0");
+    }
+    print_colon(options, writer)
+}
