@@ -26,7 +26,8 @@ use std::marker::Model;
 /// not empty, and names one of the patterns. Contracts see the kind, the array, and which bytes are word bytes.
 ///
 /// ```rust
-/// let search = Search::new(alloc, MatchKind::LeftmostLongest, true, [b"york".as_slice()])?;
+/// let patterns = [b"york".as_slice()];
+/// let search = Search::new(alloc, MatchKind::LeftmostLongest, true, patterns)?;
 /// let mut array = vec![in alloc; 0; search.prepared_len()]?;
 /// search.prepare(&mut array)?;
 /// let set = WholeWords::ascii_word_bytes();

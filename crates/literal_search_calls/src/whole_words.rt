@@ -61,12 +61,8 @@ fn tells_what_words_it_was_built_of(rt: HostRuntime) -> Result<(), Fail> {
 #[test]
 fn example_of_whole_words_by_an_array(rt: HostRuntime) -> Result<(), Fail> {
     let alloc = rt.alloc();
-    let search = Search::new(
-        alloc,
-        MatchKind::LeftmostLongest,
-        true,
-        [b"york".as_slice()],
-    )?;
+    let patterns = [b"york".as_slice()];
+    let search = Search::new(alloc, MatchKind::LeftmostLongest, true, patterns)?;
     let mut array = vec![in alloc; 0; search.prepared_len()]?;
     search.prepare(&mut array)?;
     let set = WholeWords::ascii_word_bytes();
