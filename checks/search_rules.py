@@ -36,6 +36,7 @@ MAKERS = (
     "WholeWords::find_in", "WholeWordMatchesIterator::next",
     "Overlapping::earliest_end", "OverlappingMatchesIterator::next", "Prepared::find_in", "PreparedMatches::next_match",
     "PreparedOverlapping::earliest_end", "PreparedOverlappingMatches::next_match",
+    "PreparedWords::find_in", "PreparedWordMatches::next_match",
 )
 
 # Where each step ticks, once in each function, and a sum of the words of its body as it was reviewed, if it was. The
@@ -54,7 +55,7 @@ TICKS = {
     "crates/literal_search/src/walk.rt": {
         "Table::code_at": ("tick_scanned", "28ba682a56cc"), "walk::class_by": ("tick_scanned", "5af4fe0d0b4f"),
     },
-    "crates/literal_search/src/whole_words.rt": {"Parts::is_word_at": ("tick_scanned", "99fb2808b128")},
+    "crates/literal_search/src/word_search.rt": {"Words::is_word_at": ("tick_scanned", "99fb2808b128")},
 }
 READS = ("tick_compared", "tick_scanned")
 
@@ -66,7 +67,7 @@ BYTES = re.compile(r"\b([a-z]\w*)\s*:[^,):]*(?:\[u8\]|\bVec<u8>|\bstr\b)")
 # The types that may keep a slice of bytes: a haystack, patterns, or what C hands over of either.
 KEEPERS = (
     "FindIter", "Matches", "PreparedMatches", "OverlappingMatches", "PreparedOverlappingMatches", "Input", "Pattern",
-    "SearchRequest", "Pieces", "AnySearch", "WholeWordMatches",
+    "SearchRequest", "Pieces", "AnySearch", "WholeWordMatches", "PreparedWordMatches",
 )
 
 # The fields of `BucketEntries` that tell nothing of an entry, and the functions that may name the others: the one that

@@ -27,6 +27,9 @@
  * longest pattern. A call for the leftmost match that finds one also looks up at most eleven times the bytes before it,
  * and 576 more, or 108 more than 18 times that length, whichever is more.
  *
+ * A call for whole words also looks up, for each offset at which a pattern begins, at most the square of one more than
+ * the length of the longest pattern; and if that has more than 1,024 bytes, three times the bytes to search.
+ *
  * Each call checks its arguments and returns one of the statuses below. It checks in this order: LITERAL_BAD_ARGUMENTS,
  * LITERAL_NO_SEARCHER, then, while the search is built, LITERAL_OUT_OF_MEMORY and LITERAL_TOO_LARGE, then
  * LITERAL_TOO_SHORT. Each call that builds a search may return LITERAL_NO_SEARCHER, LITERAL_OUT_OF_MEMORY and
@@ -289,6 +292,34 @@ int32_t literal_find_each_in(const uint32_t *prepared, size_t prepared_len, cons
  * LITERAL_BAD_ARGUMENTS  start is above end, or end above haystack_len */
 int32_t literal_count_in(const uint32_t *prepared, size_t prepared_len, const uint8_t *haystack, size_t haystack_len,
                          size_t start, size_t end, size_t *count);
+
+/* The leftmost whole word in the bytes of the haystack from start up to and not including end: an occurrence of a
+ * pattern with no ASCII letter, digit or underscore right before it, and none right after it. The bytes of the haystack
+ * next to those that are searched count too. Of the whole words that begin at one offset it is the one that the kind
+ * prefers; a pattern that is no whole word hides no other one. The array has to be of literal_prepare with
+ * LITERAL_LEFTMOST_LONGEST, whatever the kind is here: with another one words may be missing.
+ *
+ * LITERAL_OK             found holds the word
+ * LITERAL_NONE           there is no whole word
+ * LITERAL_BAD_ARGUMENTS  kind is none, start is above end, or end above haystack_len */
+int32_t literal_find_word_in(uint32_t kind, const uint32_t *prepared, size_t prepared_len, const uint8_t *haystack,
+                             size_t haystack_len, size_t start, size_t end, literal_match *found);
+
+/* All whole words in these bytes, up to found_len: first the one that literal_find_word_in finds, and then the leftmost
+ * one after each. Pages are as of literal_find_all_in.
+ *
+ * LITERAL_OK             found and page are written, also if there is no whole word (then page->written is 0)
+ * LITERAL_BAD_ARGUMENTS  kind is none, start is above end, or end above haystack_len */
+int32_t literal_find_all_words_in(uint32_t kind, const uint32_t *prepared, size_t prepared_len, const uint8_t *haystack,
+                                  size_t haystack_len, size_t start, size_t end, literal_match *found, size_t found_len,
+                                  literal_page *page);
+
+/* How many whole words literal_find_all_words_in would write in all.
+ *
+ * LITERAL_OK             count holds the number
+ * LITERAL_BAD_ARGUMENTS  kind is none, start is above end, or end above haystack_len */
+int32_t literal_count_words_in(uint32_t kind, const uint32_t *prepared, size_t prepared_len, const uint8_t *haystack,
+                               size_t haystack_len, size_t start, size_t end, size_t *count);
 
 #ifdef __cplusplus
 }

@@ -256,6 +256,57 @@ class SoFar(unittest.TestCase):
             self.assertEqual((status, fields(found), next_at.value), wanted, (length, start, more))
 
 
+class Words(unittest.TestCase):
+    """Whole words."""
+
+    TEXT = b"New Yorkers like York and New York City."
+    WORDS = [b"york", b"new york", b"new york city"]
+
+    def test_rows(self):
+        array, found = prepared(self.WORDS, 1, True), Match()
+        for kind, start, end, wanted in (
+            (0, 0, 40, (0, 17, 21)),
+            (0, 22, 40, (1, 26, 34)),
+            (1, 22, 40, (2, 26, 39)),
+            (1, 22, 38, (1, 26, 34)),
+            (0, 5, 9, None),  # (the bytes next to those that are searched count)
+        ):
+            status = CALLS.literal_find_word_in(kind, *array, self.TEXT, 40, start, end, found)
+            self.assertEqual(status, OK if wanted else NONE)
+            self.assertTrue(wanted is None or fields(found) == wanted)
+
+    def test_pages(self):
+        array, number, page = prepared(self.WORDS, 1, True), ctypes.c_size_t(), Page()
+        for kind, wanted in ((0, [(0, 17, 21), (1, 26, 34)]), (1, [(0, 17, 21), (2, 26, 39)])):
+            asked = self.TEXT, 40
+            for room in (1, 2, 3):
+                found, at, all_found = (Match * room)(), 0, []
+                while True:
+                    status = CALLS.literal_find_all_words_in(kind, *array, *asked, at, 40, found, room, page)
+                    self.assertEqual(status, OK)
+                    all_found += [fields(it) for it in found[: page.written]]
+                    at = page.next
+                    if page.is_last:
+                        break
+                self.assertEqual(all_found, wanted)
+            self.assertEqual(CALLS.literal_count_words_in(kind, *array, *asked, 0, 40, number), OK)
+            self.assertEqual(number.value, 2)
+
+    def test_arguments(self):
+        array, found, page, number = prepared(self.WORDS, 1), Match(*BEFORE), Page(*BEFORE), ctypes.c_size_t(7)
+        room = (Match * 1)(found)
+        for kind, start, end in ((2, 0, 40), (0, 3, 2), (1, 0, 41)):
+            asked = kind, *array, self.TEXT, 40, start, end
+            self.assertEqual(CALLS.literal_find_word_in(*asked, found), BAD_ARGUMENTS)
+            self.assertEqual(CALLS.literal_find_all_words_in(*asked, room, 1, page), BAD_ARGUMENTS)
+            self.assertEqual(CALLS.literal_count_words_in(*asked, number), BAD_ARGUMENTS)
+        asked = 0, array[0], 5, self.TEXT, 40, 0, 40
+        self.assertEqual(CALLS.literal_find_word_in(*asked, found), DAMAGED)
+        self.assertEqual(CALLS.literal_find_all_words_in(*asked, room, 1, page), DAMAGED)
+        self.assertEqual(CALLS.literal_count_words_in(*asked, number), DAMAGED)
+        self.assertEqual((*fields(found), *fields(page), *fields(room[0]), number.value), (*BEFORE * 3, 7))
+
+
 class Arrays(unittest.TestCase):
     def test_a_copy_is_whole(self):
         array, length = prepared(WORDS, 1, True)

@@ -39,9 +39,9 @@ __all__ = ["Kind", "Match", "Search", "__version__"]
 
 _Any = TypeVar("_Any", bound="Search[Any]")
 
-# A file of a searcher: these words first, the kind, whether case is ignored, whether the patterns are str, their
-# number, their length and the length of the prepared search; then the ends of the patterns, the patterns, the prepared
-# search; and at the end a checksum.
+# A file of a searcher: these words first, the kind, 1 if case is ignored and 2 more for whole words, whether the patterns
+# are str, their number, their length and the length of the prepared search; then the ends of the patterns, the patterns,
+# the prepared search; and at the end a checksum.
 _HEAD, _MAGIC, _SUM = struct.Struct("=8s6Q"), b"LITERAL1", struct.Struct("=L")
 
 
@@ -49,10 +49,16 @@ class Search(_native.Prepared[AnyStr]):
     """Searches for any number of patterns, none of them empty. Without patterns it finds nothing. If the patterns are a
     mapping, it searches for the keys, and `value` of each match is the mapping's value for its pattern.
 
-    With `ignore_case` A to Z equal a to z, in a str too; all other characters are compared as they are. A searcher
-    never changes, so threads may share one. While the library searches a long text, Python's other threads run, and
-    signals are handled. Until a call returns, its text can be neither resized nor closed, and no other thread may write
-    to it.
+    With `ignore_case` A to Z equal a to z, in a str too; all other characters are compared as they are.
+
+    With `whole_words` it finds a pattern only with no word character right before it and none right after it: A to Z, a
+    to z, 0 to 9 and the underscore, in a str too. The characters outside of text[start:end] count too. A pattern that is
+    no whole word hides no other one. Such a searcher has no calls for overlapping or earliest occurrences, nor for
+    streams: they raise ValueError.
+
+    A searcher never changes, so threads may share one. While the library searches a long text, Python's other threads
+    run, and signals are handled. Until a call returns, its text can be neither resized nor closed, and no other thread
+    may write to it.
 
     Raises ValueError if a pattern is empty or has a lone surrogate, MemoryError, and OverflowError if the table of the
     search would have 2^31 places or more. Raises TypeError for a set with Kind.LEFTMOST_FIRST: the order of the
@@ -64,6 +70,8 @@ class Search(_native.Prepared[AnyStr]):
     Match(pattern=1, start=1, end=5)
     >>> Search(["secret"], ignore_case=True).is_match("My Secret.")
     True
+    >>> Search(["new york", "york"], ignore_case=True, whole_words=True).findall("New Yorkers like York.")
+    [Match(pattern=1, start=17, end=21)]
     >>> [it.span() for it in Search(["ab", "ba"]).finditer("äbabaab")]
     [(1, 3), (3, 5), (5, 7)]
     >>> Search([b"a"]).count(bytearray(b"banana"), 2, -1)
@@ -92,7 +100,11 @@ class Search(_native.Prepared[AnyStr]):
 
     @overload
     def __init__(
-        self, patterns: Iterable[AnyStr], kind: Kind = Kind.LEFTMOST_FIRST, ignore_case: bool = False
+        self,
+        patterns: Iterable[AnyStr],
+        kind: Kind = Kind.LEFTMOST_FIRST,
+        ignore_case: bool = False,
+        whole_words: bool = False,
     ) -> None: ...
 
     @overload
@@ -101,10 +113,15 @@ class Search(_native.Prepared[AnyStr]):
         patterns: "Iterable[ReadableBuffer]",
         kind: Kind = Kind.LEFTMOST_FIRST,
         ignore_case: bool = False,
+        whole_words: bool = False,
     ) -> None: ...
 
     def __init__(
-        self, patterns: Iterable[Any], kind: Kind = Kind.LEFTMOST_FIRST, ignore_case: bool = False
+        self,
+        patterns: Iterable[Any],
+        kind: Kind = Kind.LEFTMOST_FIRST,
+        ignore_case: bool = False,
+        whole_words: bool = False,
     ) -> None:
         if isinstance(kind, bool):  # (else it would count as the number of a kind)
             raise TypeError("the kind is a Kind, not a bool")
@@ -119,7 +136,8 @@ class Search(_native.Prepared[AnyStr]):
         )
         if len({isinstance(it, str) for it in given}) > 1:
             raise TypeError("the patterns are partly str and partly bytes")
-        self._prepare(given, tuple(map(_encoded, given)), int(Kind(kind)), bool(ignore_case), None, values)
+        flags = bool(ignore_case), bool(whole_words)
+        self._prepare(given, tuple(map(_encoded, given)), int(Kind(kind)), *flags, None, values)
 
     @property
     def kind(self) -> Kind:
@@ -260,8 +278,8 @@ class Search(_native.Prepared[AnyStr]):
     def __hash__(self) -> int:
         return hash(self._key())
 
-    def _key(self) -> Tuple[Tuple[AnyStr, ...], Kind, bool]:
-        return self.patterns, self.kind, self.ignore_case
+    def _key(self) -> Tuple[Tuple[AnyStr, ...], Kind, bool, bool]:
+        return self.patterns, self.kind, self.ignore_case, self.whole_words
 
     def _given(self) -> Any:
         """The patterns as they were given, as a list or a mapping."""
@@ -269,18 +287,19 @@ class Search(_native.Prepared[AnyStr]):
 
     def __repr__(self) -> str:
         name = type(self).__qualname__
-        return f"{name}({self._given()!r}, Kind.{self.kind.name}, ignore_case={self.ignore_case})"
+        more = ", whole_words=True" if self.whole_words else ""
+        return f"{name}({self._given()!r}, Kind.{self.kind.name}, ignore_case={self.ignore_case}{more})"
 
     def __reduce__(self) -> Tuple[Any, ...]:
         # (the __init__ of a subclass may take something else)
         state = getattr(self, "__getstate__", lambda: _state(self))  # (Python 3.10 has no such method)
-        return _made, (type(self), self._given(), self.kind, self.ignore_case), state()
+        return _made, (type(self), self._given(), self.kind, self.ignore_case, self.whole_words), state()
 
 
-def _made(cls: Type[_Any], patterns: Iterable[Any], kind: Kind, ignore_case: bool) -> _Any:
+def _made(cls: Type[_Any], patterns: Iterable[Any], kind: Kind, ignore_case: bool, whole_words: bool) -> _Any:
     """A searcher of a class, without a call of its own __init__: for pickle and copy."""
     made = cls.__new__(cls)
-    Search.__init__(made, patterns, kind, ignore_case)
+    Search.__init__(made, patterns, kind, ignore_case, whole_words)
     return made
 
 
@@ -311,7 +330,8 @@ def _written(searcher: "Search[Any]") -> bytes:
     pieces = [_encoded(it) for it in searcher.patterns]
     ends, kept = list(accumulate(map(len, pieces))), searcher._prepared
     lens = len(pieces), sum(map(len, pieces)), len(kept)
-    head = _HEAD.pack(_MAGIC, searcher.kind, searcher.ignore_case, _are_str(searcher), *lens)
+    flags = searcher.ignore_case | searcher.whole_words << 1
+    head = _HEAD.pack(_MAGIC, searcher.kind, flags, _are_str(searcher), *lens)
     return b"".join([head, struct.pack(f"={len(ends)}Q", *ends), *pieces, kept])
 
 
@@ -331,11 +351,11 @@ def _replace(name: str, whole: bytes, mode: Optional[int]) -> None:
         raise
 
 
-def _read(whole: bytes) -> Optional[Tuple[Tuple[Any, ...], Tuple[bytes, ...], int, bool, bytes, None]]:
+def _read(whole: bytes) -> Optional[Tuple[Tuple[Any, ...], Tuple[bytes, ...], int, bool, bool, bytes, None]]:
     """The arguments of `_prepare` from a file of a searcher."""
     if len(whole) < _HEAD.size + _SUM.size or _SUM.pack(zlib.crc32(whole[: -_SUM.size])) != whole[-_SUM.size :]:
         return None
-    magic, kind, ignore_case, is_str, count, size, prepared = _HEAD.unpack_from(whole)
+    magic, kind, flags, is_str, count, size, prepared = _HEAD.unpack_from(whole)
     behind_ends = _HEAD.size + 8 * count
     if magic != _MAGIC or len(whole) != behind_ends + size + prepared + _SUM.size:
         return None
@@ -345,7 +365,8 @@ def _read(whole: bytes) -> Optional[Tuple[Tuple[Any, ...], Tuple[bytes, ...], in
     buffer = whole[behind_ends : behind_ends + size]
     pieces = tuple(buffer[start:end] for start, end in zip((0, *ends), ends))
     patterns = tuple(it.decode() for it in pieces) if is_str else pieces
-    return patterns, pieces, kind, bool(ignore_case), whole[behind_ends + size : -_SUM.size], None
+    ignore_case, whole_words = bool(flags & 1), bool(flags & 2)
+    return patterns, pieces, kind, ignore_case, whole_words, whole[behind_ends + size : -_SUM.size], None
 
 
 def _has_objects(view: memoryview) -> bool:

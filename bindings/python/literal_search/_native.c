@@ -82,6 +82,7 @@ static PyObject *first_of(Prepared *self, PyObject *const *given, Py_ssize_t cou
         return NULL;
     if (!(wanted == THE_EARLIEST && prepare_for_all(self)) && !bounds(&text, asked[1], asked[2], &place, &end)) {
         int is_found = wanted == THE_EARLIEST ? find_earliest(self, &text, place.byte, end, &found)
+                       : self->whole_words    ? find_first_word(self, &text, place.byte, end, &found)
                                               : find_first(self, &text, place.byte, end, &found);
         if (is_found >= 0 && wanted == WHETHER)
             answer = PyBool_FromLong(is_found);
@@ -397,16 +398,16 @@ static bool has_one_each(PyObject *of, size_t count) {
     return PyTuple_Check(of) && (size_t)PyTuple_GET_SIZE(of) == count;
 }
 
-PyDoc_STRVAR(prepare_doc, "_prepare($self, patterns, pieces, kind, ignore_case, kept, values, /)\n--\n\n"
+PyDoc_STRVAR(prepare_doc, "_prepare($self, patterns, pieces, kind, ignore_case, whole_words, kept, values, /)\n--\n\n"
 "Sets the patterns, whose bytes are the pieces. `kept` is `_prepared` of a searcher for the same patterns, or None.\n"
 "`values` has a mapping's value for each pattern, or is None.");
 
 static PyObject *search_prepare(PyObject *of, PyObject *given) {
     Prepared *self = (Prepared *)of, new = {.takes = TAKES_EITHER};
     PyObject *pieces_of, *kept, *values;
-    int ignore_case;
-    if (!PyArg_ParseTuple(given, "O!O!ipOO:_prepare", &PyTuple_Type, &new.patterns, &PyTuple_Type, &pieces_of, &new.kind,
-                          &ignore_case, &kept, &values) || join_pieces(&new.pieces, pieces_of))
+    int ignore_case, whole_words;
+    if (!PyArg_ParseTuple(given, "O!O!ippOO:_prepare", &PyTuple_Type, &new.patterns, &PyTuple_Type, &pieces_of, &new.kind,
+                          &ignore_case, &whole_words, &kept, &values) || join_pieces(&new.pieces, pieces_of))
         return NULL;
     if (!has_one_each(new.patterns, new.pieces.count) || (values != Py_None && !has_one_each(values, new.pieces.count))) {
         free_pieces(&new.pieces);
@@ -414,6 +415,7 @@ static PyObject *search_prepare(PyObject *of, PyObject *given) {
         return NULL;
     }
     new.ignore_case = (char)ignore_case;
+    new.whole_words = (char)whole_words;
     if (PyTuple_GET_SIZE(new.patterns) > 0)
         new.takes = PyUnicode_Check(PyTuple_GET_ITEM(new.patterns, 0)) ? TAKES_STR : TAKES_BYTES;
     new.prepared = kept == Py_None ? prepared_for(&new, &new.pieces, false) : checked(kept, new.pieces.count);
@@ -432,6 +434,7 @@ static PyObject *search_prepare(PyObject *of, PyObject *given) {
     self->prepared = new.prepared;
     self->kind = new.kind;
     self->ignore_case = new.ignore_case;
+    self->whole_words = new.whole_words;
     self->takes = new.takes;
     Py_RETURN_NONE;
 }
@@ -489,6 +492,7 @@ static PyMethodDef search_methods[] = {
 static PyMemberDef search_members[] = {
     {"patterns", T_OBJECT_EX, offsetof(Prepared, patterns), READONLY, "The patterns, as str or as bytes."},
     {"ignore_case", T_BOOL, offsetof(Prepared, ignore_case), READONLY, "Whether A to Z are the same as a to z."},
+    {"whole_words", T_BOOL, offsetof(Prepared, whole_words), READONLY, "Whether it finds whole words alone."},
     {"_values", T_OBJECT, offsetof(Prepared, values), READONLY, NULL},
     {"_kind", T_INT, offsetof(Prepared, kind), READONLY, NULL},
     {"_prepared", T_OBJECT_EX, offsetof(Prepared, prepared), READONLY, NULL},

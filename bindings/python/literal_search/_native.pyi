@@ -38,6 +38,8 @@ class Prepared(Generic[AnyStr]):
     @property
     def ignore_case(self) -> bool: ...
     @property
+    def whole_words(self) -> bool: ...
+    @property
     def _kind(self) -> int: ...
     @property
     def _prepared(self) -> bytes: ...
@@ -128,6 +130,7 @@ class Prepared(Generic[AnyStr]):
         pieces: Tuple[bytes, ...],
         kind: int,
         ignore_case: bool,
+        whole_words: bool,
         kept: Optional[bytes],
         values: Optional[Tuple[Any, ...]],
         /,

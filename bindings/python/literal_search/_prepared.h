@@ -28,7 +28,7 @@ typedef struct {
     PyObject *prepared; /* the array of the library, as bytes */
     PyObject *for_all;  /* the one for all that occurs, once it was asked for */
     int kind;
-    char ignore_case;
+    char ignore_case, whole_words;
     bool leads_on; /* whether a pattern or a value may lead back to what holds it */
     Takes takes;
 } Prepared;
@@ -98,8 +98,9 @@ static int32_t prepare(const Prepared *self, const Pieces *pieces, bool for_all,
         status = literal_prepare_overlapping(self->ignore_case, pieces->bytes, pieces->len, pieces->ends, pieces->count,
                                              words, len, needed);
     else
-        status = literal_prepare((uint32_t)self->kind, self->ignore_case, pieces->bytes, pieces->len, pieces->ends,
-                                 pieces->count, words, len, needed);
+        status = literal_prepare(self->whole_words ? LITERAL_LEFTMOST_LONGEST : (uint32_t)self->kind,
+                                 self->ignore_case, pieces->bytes, pieces->len, pieces->ends, pieces->count, words, len,
+                                 needed);
     come_back(state);
     return status;
 }
@@ -142,6 +143,10 @@ static PyObject *prepared_for(const Prepared *self, const Pieces *pieces, bool f
 
 /* Makes the array for all that occurs, unless there is one: another thread may have made it in the meantime. */
 static int prepare_for_all(Prepared *self) {
+    if (self->whole_words) {
+        PyErr_SetString(PyExc_ValueError, "a searcher for whole words finds no occurrences that overlap");
+        return -1;
+    }
     PyObject *made = self->for_all ? NULL : prepared_for(self, &self->pieces, true);
     if (made && self->for_all)
         Py_DECREF(made);

@@ -26,6 +26,8 @@ def searched(searcher: "Prepared[Any]", file: Any, wanted: int, by: Any = None) 
     """The wanted answer for each part of a text, up to its end. The bytes of a part are kept where a match may begin
     that ends after it. Then at least as much is read as was kept, so nothing is searched more than twice. If the file
     fails, the text before is searched first."""
+    if searcher.whole_words:
+        raise ValueError("a searcher for whole words searches no stream")
     pieces: List[Any] = []
     kept = length = before = 0
     more = True

@@ -106,6 +106,28 @@ static int find_first(const Prepared *search, const Text *text, size_t at, size_
     }
 }
 
+/* Finds the first whole word between two places, as find_first does. The library is handed the whole text, since what is
+ * next to a word counts. */
+static int find_first_word(const Prepared *search, const Text *text, size_t at, size_t end, literal_match *found) {
+    size_t words_len, piece_end;
+    const uint32_t *words = words_of(search->prepared, &words_len);
+    while (at < end) {
+        size_t cut = cut_piece(search, at, end, &piece_end);
+        PyThreadState *state = let_others_run(piece_end - at);
+        int32_t status = literal_find_word_in((uint32_t)search->kind, words, words_len, text->bytes, text->len, at,
+                                              piece_end, found);
+        come_back(state);
+        if (status != LITERAL_OK && status != LITERAL_NONE)
+            return refuse(status);
+        if (status == LITERAL_OK && found->start < cut)
+            return 1;
+        if (PyErr_CheckSignals())
+            return -1;
+        at = cut;
+    }
+    return 0;
+}
+
 /* Finds, of all that occurs between two places, what ends first. The library looks further, whether more is to come; so
  * the first pieces are short. */
 static int find_earliest(const Prepared *search, const Text *text, size_t start, size_t end, literal_match *found) {
@@ -211,9 +233,14 @@ static int matches_of_piece(Walk *walk) {
     const uint32_t *words = words_of(walk->search->prepared, &words_len);
     const Text *text = &walk->text;
     literal_page page;
+    int32_t status;
     PyThreadState *state = let_others_run(piece_end - walk->at);
-    int32_t status = literal_find_all_in(words, words_len, text->bytes, text->len, walk->at, piece_end, walk->matches,
-                                         walk->room, &page);
+    if (walk->search->whole_words)
+        status = literal_find_all_words_in((uint32_t)walk->search->kind, words, words_len, text->bytes, text->len,
+                                           walk->at, piece_end, walk->matches, walk->room, &page);
+    else
+        status = literal_find_all_in(words, words_len, text->bytes, text->len, walk->at, piece_end, walk->matches,
+                                     walk->room, &page);
     come_back(state);
     return status == LITERAL_OK ? take_page(walk, &page, cut, piece_end) : refuse(status);
 }
@@ -240,7 +267,8 @@ static int matches_one_by_one(Walk *walk) {
 
 /* Finds the matches of the next piece. */
 static int page_of_matches(Walk *walk) {
-    return walk->is_part || walk->room == 1 ? matches_one_by_one(walk) : matches_of_piece(walk);
+    bool is_alone = walk->is_part || (walk->room == 1 && !walk->search->whole_words);
+    return is_alone ? matches_one_by_one(walk) : matches_of_piece(walk);
 }
 
 /* Takes over what ends behind `at`, and is whole: where there was not room for all, what ends with the last that was

@@ -13,6 +13,7 @@ import tempfile
 import time
 import unittest
 import weakref
+from io import StringIO
 from pathlib import Path
 from types import SimpleNamespace
 from unittest import mock
@@ -223,7 +224,7 @@ class Matches(unittest.TestCase):
         self.assertEqual(Search(Changing(a=1)).find("xa").value, 1)
         for values in ((), (1, 2), [1]):
             with self.assertRaises(ValueError):
-                Search.__new__(Search)._prepare(("a",), (b"a",), 0, False, None, values)
+                Search.__new__(Search)._prepare(("a",), (b"a",), 0, False, False, None, values)
 
     def test_searchers_of_mappings(self):
         searcher = Search({b"a": 1, b"b": [2]}, LONGEST, True)
@@ -348,6 +349,76 @@ class Overlapping(unittest.TestCase):
         self.assertIsNone(pickle.loads(pickle.dumps(searcher))._for_all)
 
 
+def by_re(words, kind, text, start=0):
+    """All whole words, by a regular expression: of equally long ones the first in the list."""
+    order = sorted(range(len(words)), key=lambda i: -len(words[i])) if kind == LONGEST else range(len(words))
+    one_of = "|".join(f"({re.escape(words[i])})" for i in order)
+    found = re.compile(f"(?<![A-Za-z0-9_])(?:{one_of})(?![A-Za-z0-9_])").finditer(text, start)
+    return [(order[it.lastindex - 1], it.start(), it.end()) for it in found]
+
+
+class Words(unittest.TestCase):
+    """Whole words."""
+
+    def test_rows(self):
+        searcher = Search(["new york", "york"], ignore_case=True, whole_words=True)
+        text = "New Yorkers like York and New York."
+        self.assertEqual(searcher.findall(text), [(1, 17, 21), (0, 26, 34)])
+        self.assertEqual(list(searcher.finditer(text, 18)), [(0, 26, 34)])
+        self.assertEqual((searcher.find(text), searcher.count(text)), ((1, 17, 21), 2))
+        self.assertEqual((searcher.is_match(text), searcher.is_match("Yorkers, 2york")), (True, False))
+        self.assertEqual(searcher.sub("Rome", text), "New Yorkers like Rome and Rome.")
+        self.assertEqual(searcher.split(text, 1), ["New Yorkers like ", " and New York."])
+        self.assertEqual(searcher.findall_each(["York", "yorker"]), [[(1, 0, 4)], []])
+        self.assertIsNone(Search([b"ab"], whole_words=True).find(b"xab", 1))  # (what is in front counts)
+
+    def test_a_word_in_the_beginning_of_another(self):
+        for kind, wanted in ((FIRST, [(0, 0, 2)]), (LONGEST, [(1, 0, 5)])):
+            self.assertEqual(Search([b"ab", b"ab cd"], kind, whole_words=True).findall(b"ab cd"), wanted)
+        self.assertEqual(Search([b"ab", b"ab cd"], whole_words=True).findall(b"abx ab cde"), [(0, 4, 6)])
+
+    def test_random(self):
+        chance = random.Random(8)
+        for _ in range(2000):
+            words = ["".join(chance.choices("ab _-é", k=chance.randint(1, 4))) for _ in range(chance.randint(1, 4))]
+            text, kind = "".join(chance.choices("aabb  _-é", k=chance.randint(0, 30))), chance.choice(list(Kind))
+            searcher, start = Search(words, kind, whole_words=True), chance.randint(0, len(text))
+            wanted = by_re(words, kind, text, start)
+            self.assertEqual(searcher.findall(text, start), wanted, (words, text))
+            self.assertEqual(searcher.find(text, start), wanted[0] if wanted else None, (words, text))
+
+    def test_long_texts(self):
+        for words in ([b"ab", b"abc d"], [b"ab" * 800, b"ab", b"abc d"]):
+            searcher = Search(words, LONGEST, whole_words=True)
+            text = b"abc d abx " * 250_000 + b"-ab"
+            self.assertEqual(searcher.count(text), 250_001)
+            self.assertEqual(searcher.find(b"abx " * 600_000 + b"ab"), (words.index(b"ab"), 2_400_000, 2_400_002))
+            for cut in range(1_048_570, 1_048_582):
+                self.assertEqual(searcher.findall(b" " * cut + b"abc d"), [(words.index(b"abc d"), cut, cut + 5)])
+
+    def test_copies(self):
+        searcher = Search(["ab", "a"], LONGEST, True, True)
+        self.assertEqual(repr(searcher), "Search(['ab', 'a'], Kind.LEFTMOST_LONGEST, ignore_case=True, whole_words=True)")
+        with tempfile.TemporaryDirectory() as room:
+            searcher.save(f"{room}/words")
+            loaded = Search.load(f"{room}/words")
+        for copied in (loaded, copy.copy(searcher), pickle.loads(pickle.dumps(searcher)), eval(repr(searcher))):
+            self.assertEqual((copied, copied.whole_words), (searcher, True))
+            self.assertEqual(copied.findall("aba AB"), [(0, 4, 6)])
+        self.assertNotEqual(searcher, Search(["ab", "a"], LONGEST, True))
+        self.assertFalse(Search(["ab"]).whole_words)
+
+    def test_what_has_no_words(self):
+        searcher = Search(["a"], whole_words=True)
+        for call in (searcher.find_overlapping, searcher.count_overlapping, searcher.finditer_overlapping):
+            with self.assertRaisesRegex(ValueError, "whole words"):
+                call("a")
+        with self.assertRaisesRegex(ValueError, "whole words"):
+            searcher.find_earliest("a")
+        with self.assertRaisesRegex(ValueError, "whole words"):
+            searcher.count_stream(StringIO("a"))
+
+
 class Replacing(unittest.TestCase):
     def test_one(self):
         self.assertEqual(Search(WORDS).sub(b"-", TEXT), b"Nobody likes - in their - flavored -.")
@@ -457,7 +528,7 @@ class Copies(unittest.TestCase):
 
     def test_a_searcher_never_changes(self):
         searcher = Search([b"a"])
-        for name in ("patterns", "kind", "ignore_case"):
+        for name in ("patterns", "kind", "ignore_case", "whole_words"):
             with self.assertRaises(AttributeError):
                 setattr(searcher, name, getattr(searcher, name))
         with self.assertRaisesRegex(RuntimeError, "never changes"):
@@ -507,7 +578,9 @@ class Files(unittest.TestCase):
         whole = literal_search._written(searcher)
         places = len(whole) - 1, len(whole) - len(searcher._prepared)
         files = [whole[:at] + bytes([whole[at] ^ 1]) + whole[at + 1 :] for at in places]
-        mixed = SimpleNamespace(patterns=(b"ab",), _prepared=other._prepared, kind=FIRST, ignore_case=False)
+        mixed = SimpleNamespace(
+            patterns=(b"ab",), _prepared=other._prepared, kind=FIRST, ignore_case=False, whole_words=False
+        )
         for damaged in (*files, literal_search._written(mixed)):
             self.path.write_bytes(damaged + literal_search._SUM.pack(literal_search.zlib.crc32(damaged)))
             with self.assertRaisesRegex(ValueError, "damaged"):

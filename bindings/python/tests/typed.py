@@ -9,6 +9,7 @@ from literal_search import Kind, Match, Search
 
 of_str = Search(["a", "b"], Kind.LEFTMOST_LONGEST, ignore_case=True)
 of_bytes = Search([b"a", bytearray(b"b")])
+of_words: "Search[str]" = Search(["a"], whole_words=True)
 
 one: Optional[Match[str]] = of_str.find("text", 1, None)
 iterator: Iterator[Match[bytes]] = of_bytes.finditer(memoryview(b"text"), end=-1)
@@ -52,4 +53,5 @@ of_bytes.find_each(["text"])  # type: ignore
 Search([1])  # type: ignore
 Search(b"ab")  # type: ignore
 Search(["a"], 0)  # type: ignore
+Search(["a"], whole_words="b")  # type: ignore
 Search(["a"]).nothing()  # type: ignore

@@ -3,3 +3,4 @@ pub mod Pages
 pub mod Pieces
 pub mod SoFar
 pub mod Statuses
+pub mod Words

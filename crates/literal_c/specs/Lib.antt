@@ -4,3 +4,4 @@ pub mod Inside
 pub mod Overlapping
 pub mod Pieces
 pub mod SoFar
+pub mod Words

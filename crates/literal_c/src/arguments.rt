@@ -42,7 +42,7 @@ impl Refusal {
 }
 
 /// The kind of match that a number stands for, and `None` where it stands for none.
-fn match_kind(number: u32) -> Option<MatchKind>
+pub fn match_kind(number: u32) -> Option<MatchKind>
     ensures { MatchOption result (¬ IsKind number) (λ kind. IsKind number × (kind ≡ kind_of number)) }
 {
     match number {

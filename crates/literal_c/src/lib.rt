@@ -17,11 +17,13 @@ ghost use Rattle.literal_search.specs.PreparedOverlapping.{ForOverlapping, Refus
 ghost use Rattle.literal_search.specs.PreparedOverlapping.{IsWholeOverlapping, WritesOverlapping};
 ghost use Rattle.literal_c.specs.Answers.{IsAnswerForC, IsCount, IsPage, MayBeFound, MayBeAnswer, MayBePage};
 ghost use Rattle.literal_c.specs.Answers.{match_of};
-ghost use Rattle.literal_c.specs.Arguments.{Agree, IsOverlappingStatusBy, IsStatus, IsStatusBy, NeedTooMany};
+ghost use Rattle.literal_c.specs.Arguments.{Agree, IsKind, IsOverlappingStatusBy, IsStatus, IsStatusBy, NeedTooMany};
 ghost use Rattle.literal_c.specs.Arguments.{argument_query, argument_search};
 ghost use Rattle.literal_c.specs.Overlapping.{IsOverlappingPage, all_that_occurs, overlapping_for};
 ghost use Rattle.literal_c.specs.Pieces.{AreEnds, pieces};
 ghost use Rattle.literal_c.specs.SoFar.{TellsSoFar};
+ghost use Rattle.literal_c.specs.Words.{ForAsciiWords, IsWordCount, IsWordPage, IsWordStatusBy};
+ghost use Rattle.literal_search.specs.WholeWords.{IsLeftmostAlone, NothingAlone};
 
 mod answers;
 mod arguments;
@@ -33,13 +35,17 @@ mod prepared_tests;
 mod so_far;
 #[cfg(test)]
 mod tests;
+#[cfg(test)]
+mod word_tests;
+mod words;
 
 use answers::{answer_each, count_matches, match_for_c, write_overlapping, write_page};
-use arguments::{can_be_searched, search_for, search_for_all};
+use arguments::{can_be_searched, match_kind, search_for, search_for_all};
 use literal_search::{Damaged, Prepared, PreparedOverlapping, Span};
 use pieces::{Pieces, are_ends};
 use so_far::{find_so_far, tell_so_far};
 use std::alloc::Global;
+use words::{count_words, words_in, write_words};
 
 /// The version of this library as a number, 1,000,000 * major + 1,000 * minor + patch: 1000 for 0.1.0.
 pub const LITERAL_VERSION_NUMBER: u32 = 1000;
@@ -578,6 +584,128 @@ pub extern "C" fn literal_count_in(
     };
     let matches = search.find_iter_in(haystack, Span { start, end });
     match count_matches(matches) {
+        Err(Damaged) => LITERAL_DAMAGED,
+        Ok(matches) => {
+            *count = matches;
+            LITERAL_OK
+        }
+    }
+}
+
+/// The leftmost whole word in the bytes of the haystack from `start` up to and not including `end`: a pattern with no
+/// ASCII letter, digit or underscore right before it, and none right after it. The bytes next to these of the haystack
+/// count too. Of the whole words that begin at one offset it is the one that `kind` prefers. [`literal_prepare`] has to
+/// have written the array with [`LITERAL_LEFTMOST_LONGEST`], whatever `kind` is; of an array of the other kind no more
+/// is known than of one that was changed. [`LITERAL_BAD_ARGUMENTS`] comes also where `kind` is none; the rest is as of
+/// [`literal_find_in`].
+#[unsafe(no_mangle)]
+pub extern "C" fn literal_find_word_in(
+    kind: u32,
+    prepared: &[u32],
+    haystack: &[u8],
+    start: usize,
+    end: usize,
+    found: &mut LiteralMatch,
+) -> i32
+    ensures status { IsWordStatusBy prepared.now (IsKind kind × IsValidSpan haystack.now (between start end))
+        (λ status. (status ≡ LITERAL_OK) ⊎ (status ≡ LITERAL_NONE)) result }
+    ensures found { result ≡ LITERAL_OK → ForAsciiWords prepared.now kind (λ words. IsLeftmostAlone words.search.query
+        words.search.ignore_case words.word_bytes haystack.now (between start end) (match_of found.new)) }
+    ensures none { result ≡ LITERAL_NONE
+        → ForAsciiWords prepared.now kind (λ words. NothingAlone words haystack.now (between start end)) }
+    ensures inside { result ≡ LITERAL_OK
+        → MayBeFound (between start end) (slice_index prepared.now 3) (match_of found.new) }
+    ensures as_before { (result ≡ LITERAL_OK) ⊎ (found.new ≡ found.old) }
+{
+    let Some(kind) = match_kind(kind) else {
+        return LITERAL_BAD_ARGUMENTS;
+    };
+    if start > end || end > haystack.len() {
+        return LITERAL_BAD_ARGUMENTS;
+    }
+    let Ok(words) = words_in(kind, prepared) else {
+        return LITERAL_DAMAGED;
+    };
+    match words.find_in(haystack, Span { start, end }) {
+        Err(Damaged) => LITERAL_DAMAGED,
+        Ok(None) => LITERAL_NONE,
+        Ok(Some(it)) => {
+            *found = match_for_c(&it);
+            LITERAL_OK
+        }
+    }
+}
+
+/// All whole words in the bytes of the haystack from `start` up to and not including `end`, as many as there is room
+/// for: first the one that [`literal_find_word_in`] finds, and after each the leftmost one of the bytes after it. The
+/// kind, the array and the statuses are as of [`literal_find_word_in`], and the page and the array of matches as of
+/// [`literal_find_all_in`].
+#[unsafe(no_mangle)]
+pub extern "C" fn literal_find_all_words_in(
+    kind: u32,
+    prepared: &[u32],
+    haystack: &[u8],
+    start: usize,
+    end: usize,
+    found: &mut [LiteralMatch],
+    page: &mut LiteralPage,
+) -> i32
+    ensures status { IsWordStatusBy prepared.now (IsKind kind × IsValidSpan haystack.now (between start end))
+        (λ status. status ≡ LITERAL_OK) result }
+    ensures page { result ≡ LITERAL_OK → ForAsciiWords prepared.now kind
+        (λ words. IsWordPage words haystack.now (between start end) found.old found.new page.new) }
+    ensures inside { result ≡ LITERAL_OK
+        → MayBePage (between start end) (slice_index prepared.now 3) found.new page.new }
+    ensures goes_on { result ≡ LITERAL_OK → start + page.new.written ≤ page.new.next }
+    ensures as_before { (result ≡ LITERAL_OK) ⊎ (page.new ≡ page.old) }
+    ensures refused { result ≡ LITERAL_BAD_ARGUMENTS → found.new ≡ found.old }
+{
+    let Some(kind) = match_kind(kind) else {
+        return LITERAL_BAD_ARGUMENTS;
+    };
+    if start > end || end > haystack.len() {
+        return LITERAL_BAD_ARGUMENTS;
+    }
+    let Ok(words) = words_in(kind, prepared) else {
+        return LITERAL_DAMAGED;
+    };
+    match write_words(&words, haystack, Span { start, end }, found) {
+        Err(Damaged) => LITERAL_DAMAGED,
+        Ok(written) => {
+            *page = written;
+            LITERAL_OK
+        }
+    }
+}
+
+/// How many whole words [`literal_find_all_words_in`] finds, on one page after another: at most as many as there are
+/// bytes to search. The statuses are the same, and after any but [`LITERAL_OK`] the count is as it was.
+#[unsafe(no_mangle)]
+pub extern "C" fn literal_count_words_in(
+    kind: u32,
+    prepared: &[u32],
+    haystack: &[u8],
+    start: usize,
+    end: usize,
+    count: &mut usize,
+) -> i32
+    ensures status { IsWordStatusBy prepared.now (IsKind kind × IsValidSpan haystack.now (between start end))
+        (λ status. status ≡ LITERAL_OK) result }
+    ensures count { result ≡ LITERAL_OK → ForAsciiWords prepared.now kind
+        (λ words. IsWordCount words haystack.now (between start end) count.new) }
+    ensures most { result ≡ LITERAL_OK → count.new ≤ end - start }
+    ensures as_before { (result ≡ LITERAL_OK) ⊎ (count.new ≡ count.old) }
+{
+    let Some(kind) = match_kind(kind) else {
+        return LITERAL_BAD_ARGUMENTS;
+    };
+    if start > end || end > haystack.len() {
+        return LITERAL_BAD_ARGUMENTS;
+    }
+    let Ok(words) = words_in(kind, prepared) else {
+        return LITERAL_DAMAGED;
+    };
+    match count_words(&words, haystack, Span { start, end }) {
         Err(Damaged) => LITERAL_DAMAGED,
         Ok(matches) => {
             *count = matches;

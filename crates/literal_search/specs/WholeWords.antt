@@ -11,7 +11,7 @@ use Rattle.literal_base.specs.Occurs.{Occurs, between, pattern_at}
 use Rattle.literal_base.specs.Query.{Query}
 use Rattle.literal_base.specs.declared.search.Span.{Span}
 use Rattle.literal_search.specs.MatchesValue.{LooksOn, place_behind, place_further}
-use Rattle.literal_search.specs.SearchValue.{SearchValue, longest_of, looked_upto}
+use Rattle.literal_search.specs.SearchValue.{SearchValue, longest_of, looked_by}
 use Rattle.literal_search.specs.declared.backward.TheConstants.{LEAST}
 
 -- a `WholeWords` as contracts see it: what is searched for, and a test for each byte whether it is a word byte
@@ -98,34 +98,47 @@ pub record GivesWholeWord (old : WholeWordMatchesValue) (answer : Option MatchVa
 abbrev pub most_words_to_come : WholeWordMatchesValue → Count
 most_words_to_come m = at_most (m.span.end - m.at)
 
--- how many bytes are looked up at most at an offset at which a pattern begins
-abbrev pub most_at_start : List (List ℕ) → ℕ
-most_at_start patterns = (longest_of patterns + 1) * (longest_of patterns + 1)
+-- how many bytes are looked up at most at an offset at which a pattern begins, by the length of the longest one
+abbrev pub most_at_start : ℕ → ℕ
+most_at_start longest = (longest + 1) * (longest + 1)
 
 -- the same where each of them is searched for anew in the rest of a span
-abbrev pub most_anew : List (List ℕ) → Span → ℕ
-most_anew patterns span = most_at_start patterns + 3 * (span.end - span.start)
+abbrev pub most_anew : ℕ → Span → ℕ
+most_anew longest span = most_at_start longest + 3 * (span.end - span.start)
 
--- what is scanned while an iteration gets from one place to another, and looks further. If no pattern is longer than a
--- block, it is at most three times the bytes by which it looks further, and so many for each byte by which it gets on;
--- and it is at least the bytes that had not been looked up. Otherwise each start is searched for anew
-pub record ScansWords (patterns : List (List ℕ)) (span : Span) (from upto known further : ℕ) (old new : Counts)
-    : Type 0 where
+-- what is scanned at most while an iteration gets from one place to another, and looks further. If no pattern is longer
+-- than a block, it is at most three times the bytes by which it looks further, and so many for each byte by which it
+-- gets on. Otherwise each start is searched for anew
+pub record ScansWordsAtMost (longest : ℕ) (span : Span) (from upto known further : ℕ) (old new : Counts) : Type 0 where
   pub others : new ≡ record old { scanned = new.scanned }
-  pub most : longest_of patterns ≤ LEAST → new.scanned + 3 * known + from * most_at_start patterns
-      ≤ old.scanned + 3 * further + upto * most_at_start patterns
-  pub least : longest_of patterns ≤ LEAST
-      → old.scanned + looked_upto patterns span further ≤ new.scanned + looked_upto patterns span known
-  pub long : LEAST < longest_of patterns
-      → new.scanned + from * most_anew patterns span ≤ old.scanned + upto * most_anew patterns span
+  pub most : longest ≤ LEAST → new.scanned + 3 * known + from * most_at_start longest
+      ≤ old.scanned + 3 * further + upto * most_at_start longest
+  pub long : LEAST < longest → new.scanned + from * most_anew longest span ≤ old.scanned + upto * most_anew longest span
+
+-- what is scanned: at most so much, and if no pattern is longer than a block, at least the bytes that had not been
+-- looked up
+pub record ScansWordsBy (longest : ℕ) (span : Span) (from upto known further : ℕ) (old new : Counts) : Type 0 where
+  pub others : new ≡ record old { scanned = new.scanned }
+  pub most : longest ≤ LEAST → new.scanned + 3 * known + from * most_at_start longest
+      ≤ old.scanned + 3 * further + upto * most_at_start longest
+  pub least : longest ≤ LEAST
+      → old.scanned + looked_by longest span further ≤ new.scanned + looked_by longest span known
+  pub long : LEAST < longest → new.scanned + from * most_anew longest span ≤ old.scanned + upto * most_anew longest span
+
+-- the same for some patterns
+abbrev pub ScansWords : List (List ℕ) → Span → ℕ → ℕ → ℕ → ℕ → Counts → Counts → Type 0
+ScansWords patterns = ScansWordsBy (longest_of patterns)
 
 -- what the search for the first whole word scans. If no pattern is longer than a block, it is at least each byte up to
 -- the start of the word, with that one, and at most three times the span, and so many more for each byte up to there
-pub record ScansFirstWord (patterns : List (List ℕ)) (span : Span) (answer : Option MatchValue) (old new : Counts)
-    : Type 0 where
+pub record ScansFirstWordBy (longest : ℕ) (span : Span) (answer : Option MatchValue) (old new : Counts) : Type 0 where
   pub others : new ≡ record old { scanned = new.scanned }
-  pub least : longest_of patterns ≤ LEAST → old.scanned + place_further span answer ≤ new.scanned + span.start
-  pub most : longest_of patterns ≤ LEAST → new.scanned + span.start * most_at_start patterns
-      ≤ old.scanned + 3 * (span.end - span.start) + place_further span answer * most_at_start patterns
-  pub long : LEAST < longest_of patterns → new.scanned + span.start * most_anew patterns span
-      ≤ old.scanned + place_further span answer * most_anew patterns span
+  pub least : longest ≤ LEAST → old.scanned + place_further span answer ≤ new.scanned + span.start
+  pub most : longest ≤ LEAST → new.scanned + span.start * most_at_start longest
+      ≤ old.scanned + 3 * (span.end - span.start) + place_further span answer * most_at_start longest
+  pub long : LEAST < longest → new.scanned + span.start * most_anew longest span
+      ≤ old.scanned + place_further span answer * most_anew longest span
+
+-- the same for some patterns
+abbrev pub ScansFirstWord : List (List ℕ) → Span → Option MatchValue → Counts → Counts → Type 0
+ScansFirstWord patterns = ScansFirstWordBy (longest_of patterns)

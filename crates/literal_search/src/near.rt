@@ -323,6 +323,7 @@ impl<'t> Backward<'t> {
         ensures at { ForBackward self.now (λ tables. IsOkAnd result
             (IsMatchIn tables.search.query tables.search.ignore_case haystack.now span)) }
         ensures lies { IfOk result (λ answer. IfSome answer (IsMatchBy self.now span span.start)) }
+        ensures here { IfOk result (λ answer. IfSome answer (λ found. found.start ≡ span.start)) }
         ensures others { tally.new ≡ record tally.old { scanned = tally.new.scanned } }
         ensures most { tally.new.scanned ≤ tally.old.scanned + self.now.table.longest }
         ensures within { IfOk result (λ _. tally.new.scanned ≤ tally.old.scanned + (span.end - span.start)) }

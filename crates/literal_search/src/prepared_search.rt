@@ -140,7 +140,7 @@ impl<'p> Prepared<'p> {
 
     /// What a search from the right reads.
     #[inline(always)]
-    fn backward(&self) -> &Backward<'p>
+    pub(crate) fn backward(&self) -> &Backward<'p>
         ensures { IsBackIn self.now result.now }
     {
         &self.backward

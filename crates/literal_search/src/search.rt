@@ -331,6 +331,14 @@ impl Search {
         self.parts.numbers.put(array)
     }
 
+    /// What a search from the right reads of it.
+    pub(crate) fn backward(&self) -> Backward<'_>
+        ensures safe { IsSafe result }
+        ensures is_for { AreBackFor self.now result }
+    {
+        self.parts.backward()
+    }
+
     /// Where its memory comes from.
     pub(crate) fn allocator(&self) -> Global {
         *self.parts.patterns.allocator()

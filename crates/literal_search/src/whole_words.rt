@@ -3,19 +3,16 @@ ghost use Rattle.std.specs.Prelude.{◌≡◌, ◌+◌, ◌-◌, ◌*◌, ◌<�
 ghost use Rattle.std.specs.Prelude.{OnErr, false, length};
 ghost use Rattle.literal_base.specs.Bytes.{contains};
 ghost use Rattle.literal_base.specs.Given.{CanBeTaken};
-ghost use Rattle.literal_base.specs.Occurs.{IsValidSpan, between, pattern_at, whole_of};
-ghost use Rattle.literal_base.specs.declared.packed.MatchKind.TheVariants.{LeftmostFirst, LeftmostLongest};
-ghost use Rattle.literal_search.specs.MatchesValue.{place_behind, place_further};
+ghost use Rattle.literal_base.specs.Occurs.{IsValidSpan, pattern_at, whole_of};
 ghost use Rattle.literal_search.specs.SearchValue.{BuildsSearch, NeedFewReversed, NeedTooManyReversed, RefusesSearch};
 ghost use Rattle.literal_search.specs.WholeWords.{AreWholeWords, GivesWholeWord, IsFirstAlone};
 ghost use Rattle.literal_search.specs.WholeWords.{NothingAlone, OccursAlone, ScansFirstWord, ScansWords};
-ghost use Rattle.literal_search.specs.WholeWords.{is_ascii_word_byte, is_word_at, is_word_before, most_words_to_come};
-ghost use Rattle.literal_search.specs.Inside.WholeWords.{AreStartsOf, AreWordParts, IsBestWord, IsEarlier, IsWordAt};
-ghost use Rattle.literal_search.specs.Inside.WholeWords.{ScansEnds, whole_words_value};
+ghost use Rattle.literal_search.specs.WholeWords.{is_ascii_word_byte, most_words_to_come};
 
 use crate::BuildError;
 use crate::backward::{GoesOn, place_after};
-use crate::search::{Search, Starts};
+use crate::search::Search;
+use crate::word_search::{KnownStarts, Words};
 use literal_base::alphabet::ByteSet;
 use literal_base::count::Tally;
 use literal_base::packed::MatchKind;
@@ -55,13 +52,13 @@ struct Parts {
 
 impl Model for WholeWords {
     ghost use Rattle.literal_search.specs.WholeWords.{WholeWordsValue};
-    ghost use Rattle.literal_search.specs.Inside.WholeWords.{AreWordParts, whole_words_value};
+    ghost use Rattle.literal_search.specs.Inside.WholeWords.{AreWordParts, owned_parts, whole_words_value};
 
     ghost Value = { WholeWordsValue };
 
-    ghost view = { λ w. whole_words_value w.parts };
+    ghost view = { λ w. whole_words_value (owned_parts w.parts) };
 
-    ghost invariant = { λ w. AreWordParts w.parts };
+    ghost invariant = { λ w. AreWordParts (owned_parts w.parts) };
 }
 
 impl WholeWords {
@@ -134,8 +131,12 @@ impl WholeWords {
         ensures not_empty { IfSome result (λ found. found.start < found.end) }
         ensures bounded { ScansFirstWord self.now.search.query.patterns span result tally.old tally.new }
     {
-        let starts = &mut self.parts.search.starts_in(haystack, span);
-        self.parts.next_word(haystack, starts, span.start, tally)
+        let (kind, word_bytes) = (self.parts.kind, self.parts.word_bytes);
+        let words = Words::new(kind, self.parts.search.backward(), word_bytes);
+        let Ok(answer) = words.find_in(haystack, span, tally) else {
+            unreachable!();
+        };
+        answer
     }
 
     /// Whether a pattern occurs in the haystack as a whole word.
@@ -180,12 +181,14 @@ impl WholeWords {
           known = span.start;
         } }
     {
+        let (kind, word_bytes) = (self.parts.kind, self.parts.word_bytes);
         WholeWordMatches {
             parts: &self.parts,
+            words: Words::new(kind, self.parts.search.backward(), word_bytes),
             haystack,
             span,
-            starts: self.parts.search.starts_in(haystack, span),
             at: span.start,
+            starts: KnownStarts::new(span.start),
         }
     }
 
@@ -251,173 +254,38 @@ impl WholeWords {
     }
 }
 
-impl Parts {
-    /// The next whole word from an offset on, by the starts from an offset before it on.
-    fn next_word(
-        &self,
-        haystack: &[u8],
-        starts: &mut Starts<'_, '_>,
-        at: usize,
-        tally: &mut Tally,
-    ) -> Option<Match>
-        requires parts { AreWordParts self.now }
-        requires starts { AreStartsOf self.now haystack.now at starts.old }
-        ensures leftmost { IsFirstAlone (whole_words_value self.now) haystack.now
-            (between at starts.old.span.end) result }
-        ensures not_empty { IfSome result (λ found. found.start < found.end) }
-        ensures same { starts.new ≡ record starts.old { at = starts.new.at; known = starts.new.known } }
-        ensures at { starts.new.at ≡ place_further starts.old.span result }
-        ensures further { starts.old.known ≤ starts.new.known }
-        ensures before { AreStartsOf self.now haystack.now (place_behind starts.old.span result) starts.new }
-        ensures scans { ScansWords self.now.search.query.patterns starts.old.span starts.old.at starts.new.at
-            starts.old.known starts.new.known tally.old tally.new }
-    {
-        while let Some(found) = starts.next_counted(tally) {
-            if let Some(word) = self.best_word(haystack, found.span(), at, tally) {
-                return Some(word);
-            }
-        }
-        None
-    }
-
-    /// Of the whole words that begin at the start of a span, and lie whole in it, the one that the match kind prefers.
-    /// If the span begins before an offset, there is none.
-    fn best_word(
-        &self,
-        haystack: &[u8],
-        span: Span,
-        from: usize,
-        tally: &mut Tally,
-    ) -> Option<Match>
-        requires parts { AreWordParts self.now }
-        requires valid { IsValidSpan haystack.now span }
-        ensures best { MatchOption result (from ≤ span.start → (i : ℕ) → ¬ IsWordAt self.now haystack.now span i)
-            (IsBestWord self.now.kind self.now haystack.now span) }
-        ensures after { IfSome result (λ _. from ≤ span.start) }
-        ensures scans { ScansEnds self.now span.start (span.end + 1) tally.old tally.new }
-    {
-        if span.start < from {
-            return None;
-        }
-        if self.is_word_before(haystack, span.start, tally) {
-            return None;
-        }
-        match self.kind {
-            MatchKind::LeftmostLongest => self.longest_word(haystack, span, tally),
-            MatchKind::LeftmostFirst => self.first_word(haystack, span, tally),
-        }
-    }
-
-    /// Of the whole words that begin at the start of a span, before which no word byte is, the first in the list.
-    fn first_word(&self, haystack: &[u8], span: Span, tally: &mut Tally) -> Option<Match>
-        requires parts { AreWordParts self.now }
-        requires valid { IsValidSpan haystack.now span }
-        requires before { is_word_before self.now.word_bytes haystack.now span.start ≡ false }
-        ensures best { MatchOption result ((i : ℕ) → ¬ IsWordAt self.now haystack.now span i)
-            (IsBestWord LeftmostFirst self.now haystack.now span) }
-        ensures scans { ScansEnds self.now span.start span.end tally.old tally.new }
-    {
-        let mut first = None;
-        let mut rest = span;
-        while let Some(found) = self.longest_word(haystack, rest, tally) {
-            first = Some(earlier(first, found));
-            rest.end = found.end() - 1;
-        }
-        first
-    }
-
-    /// The longest whole word that begins at the start of a span, before which no word byte is.
-    fn longest_word(&self, haystack: &[u8], span: Span, tally: &mut Tally) -> Option<Match>
-        requires parts { AreWordParts self.now }
-        requires valid { IsValidSpan haystack.now span }
-        requires before { is_word_before self.now.word_bytes haystack.now span.start ≡ false }
-        ensures best { MatchOption result ((i : ℕ) → ¬ IsWordAt self.now haystack.now span i)
-            (IsBestWord LeftmostLongest self.now haystack.now span) }
-        ensures scans { MatchOption result (ScansEnds self.now span.start span.end tally.old tally.new)
-            (λ found. ScansEnds self.now (found.end - 1) span.end tally.old tally.new) }
-    {
-        let mut rest = span;
-        while rest.start < rest.end {
-            if self.is_word_at(haystack, rest.end, tally) {
-                rest.end -= 1;
-                continue;
-            }
-            let found = self.search.match_in_counted(haystack, rest, tally)?;
-            if found.end() == rest.end {
-                return Some(found);
-            }
-            rest.end = found.end();
-        }
-        None
-    }
-
-    /// Whether a word byte is right before an offset.
-    fn is_word_before(&self, haystack: &[u8], at: usize, tally: &mut Tally) -> bool
-        requires { at ≤ length haystack.now }
-        ensures told { result ≡ is_word_before self.now.word_bytes haystack.now at }
-        ensures others { tally.new ≡ record tally.old { scanned = tally.new.scanned } }
-        ensures most { tally.new.scanned ≤ tally.old.scanned + 1 }
-        ensures least { tally.old.scanned ≤ tally.new.scanned }
-    {
-        at > 0 && self.is_word_at(haystack, at - 1, tally)
-    }
-
-    /// Whether a word byte is at an offset. This looks up one byte, or none at the end of the haystack.
-    fn is_word_at(&self, haystack: &[u8], at: usize, tally: &mut Tally) -> bool
-        requires { at ≤ length haystack.now }
-        ensures told { result ≡ is_word_at self.now.word_bytes haystack.now at }
-        ensures others { tally.new ≡ record tally.old { scanned = tally.new.scanned } }
-        ensures most { tally.new.scanned ≤ tally.old.scanned + 1 }
-        ensures least { tally.old.scanned ≤ tally.new.scanned }
-    {
-        if at == haystack.len() {
-            return false;
-        }
-        tally.tick_scanned();
-        self.word_bytes.contains(haystack[at])
-    }
-}
-
-/// The one of two matches whose pattern is the first in the list.
-fn earlier(first: Option<Match>, found: Match) -> Match
-    ensures { IsEarlier first found result }
-{
-    match first {
-        Some(other) if other.pattern().as_usize() <= found.pattern().as_usize() => other,
-        _ => found,
-    }
-}
-
 /// What [`WholeWords::find_iter_in`] goes over. Contracts see the words, the haystack, the span, the place from which
 /// the list goes on, the place from which it looks for the next pattern, and up to which place it has looked. After its
 /// first `None` it keeps answering `None`.
 #[derive(Drop)]
 pub struct WholeWordMatches<'s, 'h> {
     parts: &'s Parts,
+    words: Words<'s>,
     haystack: &'h [u8],
     span: Span,
-    starts: Starts<'s, 'h>,
     at: usize,
+    starts: KnownStarts,
 }
 
 impl<'s, 'h> Model for WholeWordMatches<'s, 'h> {
-    ghost use Rattle.std.specs.Prelude.{◌≡◌};
+    ghost use Rattle.std.specs.Prelude.{◌≤◌};
     ghost use Rattle.literal_search.specs.WholeWords.{WholeWordMatchesValue};
-    ghost use Rattle.literal_search.specs.Inside.WholeWords.{AreStartsOf, AreWordParts, whole_words_value};
+    ghost use Rattle.literal_search.specs.Inside.WholeWords.{AreKnownStarts, AreWordParts, AreWordsFor, owned_parts};
+    ghost use Rattle.literal_search.specs.Inside.WholeWords.{whole_words_value};
 
     ghost Value = { WholeWordMatchesValue };
 
     ghost view = { λ m. record {
-      words = whole_words_value m.parts.now;
+      words = whole_words_value (owned_parts m.parts.now);
       haystack = m.haystack.now;
       span = m.span;
       at = m.at;
       from = m.starts.at;
-      known = m.starts.known;
+      known = m.starts.marks.known;
     } };
 
-    ghost invariant = { λ m. AreWordParts m.parts.now × AreStartsOf m.parts.now m.haystack.now m.at m.starts
-        × (m.starts.span ≡ m.span) };
+    ghost invariant = { λ m. AreWordParts (owned_parts m.parts.now) × AreWordsFor (owned_parts m.parts.now) m.words
+        × AreKnownStarts m.words m.haystack.now m.span m.starts × (m.starts.at ≤ m.at) × (m.at ≤ m.span.end) };
 }
 
 impl<'s, 'h> WholeWordMatches<'s, 'h> {
@@ -429,8 +297,14 @@ impl<'s, 'h> WholeWordMatches<'s, 'h> {
         ensures scans { ScansWords self.old.words.search.query.patterns self.old.span self.old.from self.new.from
             self.old.known self.new.known tally.old tally.new }
     {
-        let (span, parts) = (self.span, self.parts);
-        let answer = parts.next_word(self.haystack, &mut self.starts, self.at, tally);
+        let (span, at) = (self.span, self.at);
+        let haystack = self.haystack;
+        let next = self
+            .words
+            .next_word(haystack, span, at, &mut self.starts, tally);
+        let Ok(answer) = next else {
+            unreachable!();
+        };
         self.at = place_after(GoesOn::AtEnd, span, &answer);
         answer
     }

@@ -1,5 +1,9 @@
-//! `WholeWords`.
-use literal_search::{BuildError, ByteSet, Match, MatchKind, PatternID, Span, Tally, WholeWords};
+//! `WholeWords`, and `PreparedWords`.
+use crate::made::longest_of;
+use literal_search::{
+    BuildError, ByteSet, Damaged, Match, MatchKind, PatternID, Prepared, PreparedWords, Search,
+    Span, Tally, WholeWords,
+};
 use std::alloc::Global;
 use std::test::Fail;
 
@@ -51,5 +55,66 @@ fn tells_what_words_it_was_built_of(rt: HostRuntime) -> Result<(), Fail> {
     assert!(rt; search.patterns_len() == 1 && search.word_bytes().contains(b'-'));
     assert!(rt; search.pattern(PatternID::must(0)) == Some(b"ab".as_slice()));
     assert!(rt; search.pattern(PatternID::must(1)).is_none());
+    Ok(())
+}
+
+#[test]
+fn example_of_whole_words_by_an_array(rt: HostRuntime) -> Result<(), Fail> {
+    let alloc = rt.alloc();
+    let patterns = [b"york".as_slice()];
+    let search = Search::new(alloc, MatchKind::LeftmostLongest, true, patterns)?;
+    let mut array = vec![in alloc; 0; search.prepared_len()]?;
+    search.prepare(&mut array)?;
+    let set = WholeWords::ascii_word_bytes();
+    let words = PreparedWords::new(Prepared::new(&array)?, MatchKind::LeftmostFirst, set);
+    let found = words.find_in(b"Yorkers, York", Span { start: 0, end: 13 })?;
+    assert!(rt; found == Some(Match::must(0, Span { start: 9, end: 13 })));
+    Ok(())
+}
+
+/// The array of a search for two words, the longest of them.
+fn filled(alloc: Global) -> Result<Vec<u32>, Fail> {
+    let search = longest_of(alloc, &[b"new york", b"york"])?;
+    let mut array = vec![in alloc; 0; search.prepared_len()]?;
+    search.prepare(&mut array)?;
+    Ok(array)
+}
+
+/// The first of them in a text as a whole word, by each call of a search by the array that iterates or counts.
+fn by_array(array: &[u32]) -> Result<[Option<Match>; 3], Damaged> {
+    let (kind, set) = (MatchKind::LeftmostFirst, WholeWords::ascii_word_bytes());
+    let words = PreparedWords::new(Prepared::new(array)?, kind, set);
+    let (haystack, span, tally) = (
+        b"yorkers, york",
+        Span { start: 0, end: 13 },
+        &mut Tally::new(),
+    );
+    Ok([
+        words.find_in_counted(haystack, span, tally)?,
+        words.find_iter_in(haystack, span).next_match()?,
+        words.find_iter_in(haystack, span).next_counted(tally)?,
+    ])
+}
+
+#[test]
+fn finds_whole_words_by_an_array(rt: HostRuntime) -> Result<(), Fail> {
+    let array = filled(rt.alloc())?;
+    let second = Some(Match::must(1, Span { start: 9, end: 13 }));
+    assert!(rt; by_array(&array)? == [second; 3]);
+    Ok(())
+}
+
+/// The first row leads out of the rows.
+#[test]
+fn whole_words_by_a_damaged_array_end(rt: HostRuntime) -> Result<(), Fail> {
+    let mut array = filled(rt.alloc())?;
+    for number in array.iter_mut().skip(8).take(40) {
+        *number = u32::MAX - 1;
+    }
+    let set = WholeWords::ascii_word_bytes();
+    let words = PreparedWords::new(Prepared::new(&array)?, MatchKind::LeftmostFirst, set);
+    let mut matches = words.find_iter_in(b"yorkers, york", Span { start: 0, end: 13 });
+    assert!(rt; matches.next_match() == Err(Damaged));
+    assert!(rt; matches.next_match() == Ok(None));
     Ok(())
 }

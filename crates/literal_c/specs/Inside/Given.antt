@@ -1,9 +1,13 @@
 -- What an iteration gave of which little is known, and what is left of one.
 use Rattle.std.specs.Prelude.{◌≡◌, ◌⊎◌, ℕ, ◌≤◌, List, length, take}
 use Rattle.std.specs.List.{All}
+use Rattle.literal_base.specs.Bytes.{contains}
 use Rattle.literal_base.specs.MatchValue.{MatchValue}
 use Rattle.literal_base.specs.Occurs.{between}
+use Rattle.literal_base.specs.declared.packed.MatchKind.{MatchKind}
 use Rattle.literal_base.specs.declared.search.Span.{Span}
+use Rattle.literal_search.specs.PreparedWords.{PreparedWordsValue}
+use Rattle.literal_search.specs.WholeWords.{is_ascii_word_byte}
 use Rattle.literal_c.specs.Answers.{match_of}
 use Rattle.literal_c.specs.declared.LiteralMatch.{LiteralMatch}
 use Rattle.literal_c.specs.declared.LiteralPage.{LiteralPage}
@@ -29,3 +33,9 @@ pub record Rest : Type 0 where
 -- what is left of it behind an offset
 abbrev pub behind : Rest → ℕ → Rest
 behind rest at = record rest { span = between at rest.span.end }
+
+-- a search for whole words is by an array, a kind, and the ASCII word bytes
+pub record AreWordsBy (kind : MatchKind) (array : List ℕ) (words : PreparedWordsValue) : Type 0 where
+  pub numbers : words.numbers ≡ array
+  pub kind_is : words.kind ≡ kind
+  pub word_bytes : (b : ℕ) → contains words.word_bytes b ≡ is_ascii_word_byte b

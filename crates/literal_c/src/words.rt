@@ -1,0 +1,71 @@
+//! Whole words by an array that C lends.
+ghost use Rattle.std.specs.Prelude.{◌≡◌, ◌+◌, ◌-◌, ◌≤◌, IfOk, MatchResult, slice_index};
+ghost use Rattle.std.specs.Result.{IsOkAnd};
+ghost use Rattle.literal_base.specs.Occurs.{IsValidSpan};
+ghost use Rattle.literal_search.specs.Prepared.{HasAllParts};
+ghost use Rattle.literal_search.specs.PreparedWords.{ForWholeWords};
+ghost use Rattle.literal_c.specs.Answers.{MayBePage};
+ghost use Rattle.literal_c.specs.Inside.Given.{AreWordsBy};
+ghost use Rattle.literal_c.specs.Words.{IsWordCount, IsWordPage};
+
+use crate::answers::match_for_c;
+use crate::{LiteralMatch, LiteralPage};
+use literal_search::{Damaged, MatchKind, Prepared, PreparedWords, Span, WholeWords};
+
+/// The search for whole words by an array, by a kind and the ASCII word bytes.
+pub fn words_in(kind: MatchKind, prepared: &[u32]) -> Result<PreparedWords<'_>, Damaged>
+    ensures { MatchResult result (λ words. AreWordsBy kind prepared.now words × HasAllParts prepared.now)
+        (λ _. ¬ HasAllParts prepared.now) }
+{
+    let prepared = Prepared::new(prepared)?;
+    Ok(PreparedWords::new(prepared, kind, WholeWords::ascii_word_bytes()))
+}
+
+/// Writes the whole words of a span, as many as there is room for, and says how many and what is left.
+pub fn write_words(
+    words: &PreparedWords<'_>,
+    haystack: &[u8],
+    span: Span,
+    found: &mut [LiteralMatch],
+) -> Result<LiteralPage, Damaged>
+    requires { IsValidSpan haystack.now span }
+    ensures page { ForWholeWords words.now (λ w. IsOkAnd result
+        (IsWordPage w haystack.now span found.old found.new)) }
+    ensures inside { IfOk result (MayBePage span (slice_index words.now.numbers 3) found.new) }
+    ensures goes_on { IfOk result (λ page. span.start + page.written ≤ page.next) }
+{
+    let mut matches = words.find_iter_in(haystack, span);
+    let mut page = LiteralPage {
+        written: 0,
+        next: span.start,
+        is_last: 1,
+    };
+    for place in found.iter_mut() {
+        let Some(it) = matches.next_match()? else {
+            return Ok(page);
+        };
+        *place = match_for_c(&it);
+        page.written += 1;
+        page.next = it.end();
+    }
+    if let Some(it) = matches.next_match()? {
+        page.next = it.start();
+        page.is_last = 0;
+        return Ok(page);
+    }
+    Ok(page)
+}
+
+/// How many whole words there are in a span.
+pub fn count_words(words: &PreparedWords<'_>, haystack: &[u8], span: Span) -> Result<usize, Damaged>
+    requires { IsValidSpan haystack.now span }
+    ensures count { ForWholeWords words.now (λ w. IsOkAnd result (IsWordCount w haystack.now span)) }
+    ensures most { IfOk result (λ count. count ≤ span.end - span.start) }
+{
+    let mut matches = words.find_iter_in(haystack, span);
+    let mut count = 0;
+    while let Some(_) = matches.next_match()? {
+        count += 1;
+    }
+    Ok(count)
+}

@@ -1,0 +1,55 @@
+use Rattle.std.proofs.Common.{◌∙◌, ap, arith, subst, sym, ℕ}
+use Rattle.literal_base.specs.Occurs.{between}
+use Rattle.literal_search.specs.Inside.WholeWords.{WordParts, whole_words_value}
+use Rattle.literal_search.specs.MatchesValue.{place_behind}
+use Rattle.literal_search.specs.Prepared.{IsPrepared}
+use Rattle.literal_search.specs.PreparedWords.{PreparedWordMatchesValue, word_matches_by, words_for}
+use Rattle.literal_search.specs.WholeWords.{GivesWholeWord, IsFirstAlone, WholeWordMatchesValue}
+use Rattle.literal_search.proofs.lemmas.Prepared.{some_by}
+use Rattle.literal_search.proofs.lemmas.WholeWords.{for_prepared}
+use Rattle.literal_search.proofs.prepared_words.PreparedWordMatches.next_counted.Goals as goal
+
+pub returns-in-Ok-clause-prepared : goal.returns-in-Ok-clause-prepared
+returns-in-Ok-clause-prepared c = λ search given longest.
+    let m = c.self.inside in
+    let is = subst (λ (v : PreparedWordMatchesValue). IsPrepared search v.words.numbers) (sym c.self.view_is) given in
+    let told = c.in-Ok.ensures in
+    let starts = c.next_word.new.starts in
+    let answer = c.in-Ok.answer in
+    let words = words_for search m.prepared.now in
+    let new_at = λ (at from : ℕ). let v : WholeWordMatchesValue = record {
+      words = words;
+      haystack = m.haystack.now;
+      span = m.span;
+      at = at;
+      from = from;
+      known = starts.marks.known;
+    } in v in
+    subst (λ (v : PreparedWordMatchesValue). GivesWholeWord (word_matches_by v (words_for search v.words)) answer
+    (record {
+      words = words_for search v.words;
+      haystack = m.haystack.now;
+      span = m.span;
+      at = c.place_after-self-inside.result;
+      from = starts.at;
+      known = starts.marks.known;
+    })) c.self.view_is (record {
+      leftmost = for_prepared m.prepared.now m.words c.self.invariant.0 (λ (p : WordParts).
+          IsFirstAlone (whole_words_value p) m.haystack.now (between m.at m.span.end) answer) told.leftmost search is
+          longest;
+      not_empty = some_by m.words.backward m.span m.at answer told.lies;
+      known = starts.marks.known;
+      goes_on = ap (λ at. new_at at starts.at) c.place_after-self-inside.ensures
+          ∙ ap (λ from. new_at (place_behind m.span answer) from) told.at;
+      looks = record {
+        further = told.further;
+        inside = told.starts.known;
+        looked = omega (arith, told.starts.looked, c.self.invariant.0.back.longest, is.tables.longest);
+      };
+    })
+
+pub returns-in-Err-clause-prepared : goal.returns-in-Err-clause-prepared
+returns-in-Err-clause-prepared c = λ search given longest.
+    let m = c.self.inside in
+    let is = subst (λ (v : PreparedWordMatchesValue). IsPrepared search v.words.numbers) (sym c.self.view_is) given in
+    for_prepared m.prepared.now m.words c.self.invariant.0 (λ _. ⊥) c.in-Err.ensures.leftmost search is longest
