@@ -9,6 +9,8 @@ mod callers;
 #[cfg(test)]
 mod fingerprints;
 #[cfg(test)]
+mod folding;
+#[cfg(test)]
 mod made;
 #[cfg(test)]
 mod parts;

@@ -13,6 +13,8 @@ mod confirming;
 #[cfg(test)]
 mod exact;
 #[cfg(test)]
+mod folding;
+#[cfg(test)]
 mod made;
 #[cfg(test)]
 mod pattern_lists;
