@@ -172,7 +172,7 @@ def odd_uses(code, calls, name):
 
     code = BOUND.sub(passed_over, LENGTH.sub(passed_over, code))
     code = HASHED.sub(passed_over, code) if name.endswith("RabinKarp::walk") else code
-    code = COPIED.sub(passed_over, code) if re.search("Search::replace_all(_with|_str)?$", name) else code
+    code = COPIED.sub(passed_over, code) if re.search("(Search|WholeWords)::replace_all(_with|_str)?$", name) else code
     code = calls.sub(lambda found: HANDED.sub(passed_over, found[0]), code)
     return [found.start() for found in re.finditer(r"\bhaystack\b", code)]
 

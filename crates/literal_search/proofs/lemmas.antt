@@ -30,6 +30,7 @@ pub mod Prepared
 pub mod Recognised
 pub mod Relabelled
 pub mod Replaced
+pub mod ReplacedWords
 pub mod Reversed
 pub mod Rows
 pub mod Scan

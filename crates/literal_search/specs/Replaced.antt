@@ -7,8 +7,9 @@ use Rattle.std.specs.List.{FoldsTo, slice_range}
 use Rattle.std.specs.declared.alloc.AllocError.{AllocError}
 use Rattle.literal_base.specs.Greedy.{IsGreedy}
 use Rattle.literal_base.specs.MatchValue.{MatchValue}
-use Rattle.literal_base.specs.Occurs.{pattern_at}
+use Rattle.literal_base.specs.Occurs.{pattern_at, whole_of}
 use Rattle.literal_search.specs.SearchValue.{SearchValue, longest_of}
+use Rattle.literal_search.specs.WholeWords.{AreWholeWords, WholeWordsValue}
 use Rattle.literal_search.specs.declared.replace.ReplaceError.{ReplaceError}
 use Rattle.literal_search.specs.declared.replace.ReplaceError.TheVariants.{NotOneForEach, OutOfMemory}
 use Rattle.literal_search.specs.declared.replace_stream.ReplaceStreamError.{ReplaceStreamError}
@@ -34,6 +35,21 @@ abbrev pub RefusesToReplace : SearchValue → List ℕ → List (List ℕ) → R
 RefusesToReplace search text replacements NotOneForEach = ¬ length replacements ≡ length search.query.patterns
 RefusesToReplace search text replacements OutOfMemory =
     (answer : List ℕ) × IsReplaced search text replacements answer × (0 < length answer)
+
+-- the whole words of a text that do not overlap, each replaced: there is a replacement for each pattern
+pub record AreWordsReplaced (words : WholeWordsValue) (text : List ℕ) (replacements : List (List ℕ)) (answer : List ℕ)
+    : Type 0 where
+  pub one_for_each : length replacements ≡ length words.search.query.patterns
+  pub matches : List MatchValue
+  pub are_words : AreWholeWords words text (whole_of text) matches
+  pub is_replaced : answer ≡ replaced text replacements 0 matches
+
+-- why they are not: there are not as many replacements as patterns; or memory was refused, for a text that is not empty
+abbrev pub RefusesToReplaceWords : WholeWordsValue → List ℕ → List (List ℕ) → ReplaceError → Type 0
+RefusesToReplaceWords words text replacements NotOneForEach =
+    ¬ length replacements ≡ length words.search.query.patterns
+RefusesToReplaceWords words text replacements OutOfMemory =
+    (length replacements ≡ length words.search.query.patterns) × (0 < length text)
 
 -- a text is written up to a place, with its matches replaced: whatever follows the text, with what is put in place of
 -- all behind that place it makes the whole
@@ -103,6 +119,16 @@ module _ {F : Type 0}
   pub record IsWritten (search : SearchValue) (haystack : List ℕ) (writer : F) (answer : List ℕ) : Type 0 where
     pub matches : List MatchValue
     pub are_greedy : IsGreedy search.query search.ignore_case haystack 0 matches
+    pub first : WritingValue F
+    pub last : WritingValue F
+    pub begins : (first.writer ≡ writer) × (first.text.items ≡ []) × (first.at ≡ 0)
+    pub is_written : FoldsTo (WritesMatch haystack) first matches last
+    pub ends : answer ≡ last.text.items ++ slice_range haystack last.at (length haystack)
+
+  -- the same of the whole words of a haystack that do not overlap
+  pub record AreWordsWritten (words : WholeWordsValue) (haystack : List ℕ) (writer : F) (answer : List ℕ) : Type 0 where
+    pub matches : List MatchValue
+    pub are_words : AreWholeWords words haystack (whole_of haystack) matches
     pub first : WritingValue F
     pub last : WritingValue F
     pub begins : (first.writer ≡ writer) × (first.text.items ≡ []) × (first.at ≡ 0)

@@ -2,9 +2,10 @@
 ghost use Rattle.std.specs.Prelude.{◌<◌, IfErr, IfOk, OnErr, length, map, string_bytes};
 ghost use Rattle.std.specs.List.{All};
 ghost use Rattle.std.specs.Str.{IsUtf8};
-ghost use Rattle.literal_search.specs.Replaced.{IsReplaced, IsWritten, RefusesToReplace};
+ghost use Rattle.literal_search.specs.Replaced.{AreWordsReplaced, AreWordsWritten, IsReplaced, IsWritten};
+ghost use Rattle.literal_search.specs.Replaced.{RefusesToReplace, RefusesToReplaceWords};
 
-use crate::{Match, Search};
+use crate::{Match, Search, WholeWords};
 use std::alloc::{AllocError, Global};
 use std::error::Error;
 use std::fmt;
@@ -138,6 +139,59 @@ impl Search {
     ) -> Result<Vec<u8>, AllocError>
         requires { F.IsAlwaysCallable write }
         ensures ok { IfOk result (λ text. IsWritten F.step self.now haystack.now write text.items) }
+        ensures error { OnErr result (0 < length haystack.now) }
+    {
+        let mut text = Vec::new(alloc);
+        let mut at = 0;
+        for found in self.find_iter(haystack) {
+            text.extend_from_slice(&haystack[at..found.start()])?;
+            write(found, &haystack[found.start()..found.end()], &mut text)?;
+            at = found.end();
+        }
+        text.extend_from_slice(&haystack[at..])?;
+        Ok(text)
+    }
+}
+
+impl WholeWords {
+    /// The haystack with each whole word of [`WholeWords::find_iter`] replaced by what is given for its pattern, and as
+    /// it is between them. There has to be one replacement for each pattern, in their order, else the answer is
+    /// [`ReplaceError::NotOneForEach`]; it may be empty. Memory is asked for only where the haystack is not empty.
+    pub fn replace_all(
+        &self,
+        alloc: Global,
+        haystack: &[u8],
+        replacements: &[&[u8]],
+    ) -> Result<Vec<u8>, ReplaceError>
+        ensures ok { IfOk result
+            (λ text. AreWordsReplaced self.now haystack.now (map (λ r. r.now) replacements.now) text.items) }
+        ensures error { IfErr result
+            (RefusesToReplaceWords self.now haystack.now (map (λ r. r.now) replacements.now)) }
+    {
+        if replacements.len() != self.patterns_len() {
+            return Err(ReplaceError::NotOneForEach);
+        }
+        let mut text = Vec::new(alloc);
+        let mut at = 0;
+        for found in self.find_iter(haystack) {
+            text.extend_from_slice(&haystack[at..found.start()])?;
+            text.extend_from_slice(replacements[found.pattern().as_usize()])?;
+            at = found.end();
+        }
+        text.extend_from_slice(&haystack[at..])?;
+        Ok(text)
+    }
+    /// The haystack with each whole word of [`WholeWords::find_iter`] replaced by what a call writes for it, and as it
+    /// is between them. The calls are as of [`Search::replace_all_with`]. Where memory is refused, to a call or here,
+    /// the answer is that error; for an empty haystack it never is.
+    pub fn replace_all_with<F: FnMut(Match, &[u8], &mut Vec<u8>) -> Result<(), AllocError>>(
+        &self,
+        alloc: Global,
+        haystack: &[u8],
+        mut write: F,
+    ) -> Result<Vec<u8>, AllocError>
+        requires { F.IsAlwaysCallable write }
+        ensures ok { IfOk result (λ text. AreWordsWritten F.step self.now haystack.now write text.items) }
         ensures error { OnErr result (0 < length haystack.now) }
     {
         let mut text = Vec::new(alloc);

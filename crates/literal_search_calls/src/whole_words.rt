@@ -1,8 +1,8 @@
 //! `WholeWords`, and `PreparedWords`.
 use crate::made::longest_of;
 use literal_search::{
-    BuildError, ByteSet, Damaged, Match, MatchKind, PatternID, Prepared, PreparedWords, Search,
-    Span, Tally, WholeWords,
+    BuildError, ByteSet, Damaged, Match, MatchKind, PatternID, Prepared, PreparedWords,
+    ReplaceError, Search, Span, Tally, WholeWords,
 };
 use std::alloc::Global;
 use std::test::Fail;
@@ -116,5 +116,36 @@ fn whole_words_by_a_damaged_array_end(rt: HostRuntime) -> Result<(), Fail> {
     let mut matches = words.find_iter_in(b"yorkers, york", Span { start: 0, end: 13 });
     assert!(rt; matches.next_match() == Err(Damaged));
     assert!(rt; matches.next_match() == Ok(None));
+    Ok(())
+}
+
+/// Whole words that are replaced, by each call.
+fn replaced(alloc: Global) -> Result<[Vec<u8>; 2], Fail> {
+    let (kind, set) = (MatchKind::LeftmostFirst, WholeWords::ascii_word_bytes());
+    let words = WholeWords::new(alloc, kind, false, set, [b"york".as_slice(), b"new york"])?;
+    let text = b"new yorkers like york, new york";
+    Ok([
+        words.replace_all(alloc, text, &[b"Rome", b""])?,
+        words.replace_all_with(alloc, text, |_, bytes, text| {
+            text.extend_from_slice(b"<")?;
+            text.extend_from_slice(bytes)?;
+            text.extend_from_slice(b">")
+        })?,
+    ])
+}
+
+#[test]
+fn replaces_whole_words(rt: HostRuntime) -> Result<(), Fail> {
+    let [by_pattern, by_function] = replaced(rt.alloc())?;
+    assert!(rt; by_pattern.as_slice() == b"new yorkers like Rome, ".as_slice());
+    assert!(rt; by_function.as_slice() == b"new yorkers like <york>, <new york>".as_slice());
+    Ok(())
+}
+
+#[test]
+fn replaces_whole_words_by_one_for_each(rt: HostRuntime) -> Result<(), Fail> {
+    let search = without_hyphens(rt.alloc())?;
+    let answer = search.replace_all(rt.alloc(), b"ab", &[b"a", b"b"]);
+    assert!(rt; answer.err() == Some(ReplaceError::NotOneForEach));
     Ok(())
 }

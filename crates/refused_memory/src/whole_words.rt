@@ -59,3 +59,34 @@ fn find_all_of_whole_words(rt: HostRuntime) -> Result<(), AllocError> {
     }
     Ok(())
 }
+
+/// Each whole word between two marks, or after a mark: by the call of this number.
+fn mark(alloc: Global, search: &WholeWords, call: usize) -> Result<Vec<u8>, AllocError> {
+    let haystack = b"axes axe";
+    if call == 0 {
+        let marks = [b"<what is put in place of a word>".as_slice(); 24];
+        return search
+            .replace_all(alloc, haystack, &marks)
+            .or(Err(AllocError));
+    }
+    search.replace_all_with(alloc, haystack, |_, bytes, text| {
+        text.extend_from_slice(b"<what is put in place of a word>")?;
+        text.extend_from_slice(bytes)
+    })
+}
+
+#[test]
+fn replace_all_of_whole_words(rt: HostRuntime) -> Result<(), AllocError> {
+    let search = build(rt.alloc()).or(Err(AllocError))?;
+    for call in 0..2 {
+        let text = match mark(rt.alloc(), &search, call) {
+            Ok(text) => text,
+            Err(_) => {
+                assert_finds(&rt, &search);
+                mark(rt.alloc(), &search, call).expect(&rt, "it was refused again")
+            }
+        };
+        assert!(rt; text.starts_with(b"axes <what is put in place of a word>"));
+    }
+    Ok(())
+}

@@ -1,0 +1,31 @@
+use Rattle.std.proofs.Common.{◌∙◌, ap, arith, rules}
+use Rattle.std.specs.List.{slice_range}
+use Rattle.literal_search.proofs.lemmas.Replaced.{replacement_at}
+use Rattle.literal_search.proofs.lemmas.ReplacedWords.{word_refused, word_written, words_written}
+use Rattle.literal_search.proofs.whole_words.WholeWords.replace_all.Goals as goal
+
+pub returns-in_err-extend_from_slice-clause-error : goal.returns-in_err-extend_from_slice-clause-error
+returns-in_err-extend_from_slice-clause-error c =
+    let refused = word_refused c.loop-found.invariant
+    (omega (arith, c.if-replacements-patterns_len.false, c.patterns_len.ensures)) c.in-Some.ensures.steps in
+    search (rules, refused)
+
+pub returns-in_err-extend_from_slice-2-clause-error : goal.returns-in_err-extend_from_slice-2-clause-error
+returns-in_err-extend_from_slice-2-clause-error c =
+    let refused = word_refused c.loop-found.invariant
+    (omega (arith, c.if-replacements-patterns_len.false, c.patterns_len.ensures)) c.in-Some.ensures.steps in
+    search (rules, refused)
+
+pub loop-found-preserved : goal.loop-found-preserved
+loop-found-preserved c =
+    word_written c.loop-found.invariant c.in-Some.ensures.steps _ _ _ _ _ c.in_ok-extend_from_slice.ensures.items
+    c.in_ok-extend_from_slice-2.ensures.items
+    (ap (slice_range c.args.haystack.now c.loop-found.at) c.start.ensures.start)
+    (replacement_at c.args.replacements.now _ _ (c.as_usize.ensures.value ∙ c.pattern.ensures))
+    c.end-at.ensures.end
+
+pub returns-clause-ok : goal.returns-clause-ok
+returns-clause-ok c =
+    words_written c.loop-found.invariant c.in-None.ensures.steps
+    (omega (arith, c.if-replacements-patterns_len.false, c.patterns_len.ensures)) _
+    c.in_ok-extend_from_slice-3.ensures.items
