@@ -5,26 +5,19 @@ ghost use Rattle.literal_fingerprints.specs.CandidateScans.{MayStop, NoneBeginsB
 ghost use Rattle.literal_fingerprints.specs.CandidateScans.{without_first};
 ghost use Rattle.literal_fingerprints.specs.RarePairs.{AreOf};
 
-use crate::fingerprints::Fingerprints;
+use crate::fingerprints::{BYTES, Fingerprints};
 use crate::pair::{RarePair, bytes_before_pair};
 use literal_base::Span;
 use literal_base::count::Tally;
 
-/// What a scan looks for.
-#[derive(Clone, Copy)]
-pub enum ScanBy {
-    /// The fingerprints of several patterns.
-    Fingerprints(Fingerprints),
-    /// Two or three bytes of the only pattern.
-    Pair(RarePair),
-}
-
 /// Tells at which places of a haystack a pattern of a list may begin: at candidates.
 #[derive(Clone, Copy)]
 pub struct CandidateScan {
-    /// What the scan looks for.
-    pub by: ScanBy,
-    /// How many first bytes of each pattern it leaves out.
+    /// The fingerprints of the patterns. Where there is a pair, they have no meaning.
+    pub fingerprints: Fingerprints,
+    /// Two or three bytes of the only pattern.
+    pub pair: Option<RarePair>,
+    /// The scan goes by what follows so many first bytes of each pattern.
     pub skipped: u8,
 }
 
@@ -39,11 +32,18 @@ impl CandidateScan {
             → 0 < length pattern → IsSome result }
     {
         if let Some((skipped, pair)) = pair_for(ignore_case, patterns) {
-            let by = ScanBy::Pair(pair);
-            return Some(CandidateScan { by, skipped });
+            return Some(CandidateScan {
+                fingerprints: Fingerprints::from_bytes(&[0; BYTES]),
+                pair: Some(pair),
+                skipped,
+            });
         }
-        let by = ScanBy::Fingerprints(Fingerprints::new(ignore_case, patterns)?);
-        Some(CandidateScan { by, skipped: 0 })
+        let fingerprints = Fingerprints::new(ignore_case, patterns)?;
+        Some(CandidateScan {
+            fingerprints,
+            pair: None,
+            skipped: 0,
+        })
     }
 
     /// A place of the span, or its end, before which no pattern begins that lies whole in the span. The span has to be
@@ -65,9 +65,10 @@ impl CandidateScan {
             start: span.start + skipped,
             end: span.end,
         };
-        let at = match &self.by {
-            ScanBy::Fingerprints(fingerprints) => fingerprints.next(haystack, rest, tally),
-            ScanBy::Pair(pair) => pair.next(haystack, rest, tally),
+        // (a copy of the pair: a reference to it would keep the fingerprints out of registers, too)
+        let at = match self.pair {
+            None => self.fingerprints.next(haystack, rest, tally),
+            Some(pair) => pair.next(haystack, rest, tally),
         };
         at - skipped
     }
@@ -76,9 +77,9 @@ impl CandidateScan {
     pub fn ahead(&self) -> usize
         ensures { result ≡ ahead_of self.now }
     {
-        match self.by {
-            ScanBy::Fingerprints(_) => 35,
-            ScanBy::Pair(_) => 37,
+        match self.pair {
+            None => 35,
+            Some(_) => 37,
         }
     }
 }

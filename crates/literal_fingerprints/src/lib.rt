@@ -12,6 +12,6 @@ mod nibbles;
 mod pair;
 mod wide;
 
-pub use candidates::{CandidateScan, ScanBy};
+pub use candidates::CandidateScan;
 pub use fingerprints::{BYTES, Fingerprints};
 pub use pair::{PAIR_BYTES, RareByte, RarePair};

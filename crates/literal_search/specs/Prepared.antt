@@ -9,9 +9,7 @@ use Rattle.literal_fingerprints.specs.CandidateScans.{StopsAtEach}
 use Rattle.literal_fingerprints.specs.RarePairs.{pair_in}
 use Rattle.literal_fingerprints.specs.declared.candidates.CandidateScan.{CandidateScan}
 use Rattle.literal_fingerprints.specs.declared.pair.RarePair.{RarePair}
-use Rattle.literal_fingerprints.specs.declared.candidates.ScanBy.{ScanBy}
-use Rattle.literal_fingerprints.specs.declared.candidates.ScanBy.TheVariants.{Fingerprints, Pair}
-use Rattle.literal_fingerprints.specs.FingerprintsValue.{FingerprintsValue, fingerprints_in}
+use Rattle.literal_fingerprints.specs.FingerprintsValue.{fingerprints_in}
 use Rattle.literal_search.specs.SearchValue.{CanBeKept, HoldsInClasses, longest_of, SearchValue}
 use Rattle.literal_search.specs.SearchValue.{reversed, unshadowed}
 use Rattle.literal_search.specs.Inside.Classes.{AreClasses, LeavesLast, Tells, symbols_in}
@@ -65,17 +63,12 @@ past_skipped prints = slice_index prints 0
 abbrev pub pair_of : List ℕ → Option RarePair
 pair_of bytes = if slice_index bytes 0 == 0 then None else Some (pair_in bytes)
 
--- a scan by a pair, if there is one, and else by fingerprints
-abbrev pub by_pair_or : Option RarePair → FingerprintsValue → ScanBy
-by_pair_or None fingerprints = Fingerprints fingerprints
-by_pair_or (Some pair) fingerprints = Pair pair
-
--- the scan by such numbers: by the pair or the fingerprints whose bytes they hold, each four of them, the first in its
+-- the scan by such numbers: the fingerprints and the pair whose bytes they hold, each four of them, the first in its
 -- lowest eight bits
 unfoldable pub scan_by : List ℕ → CandidateScan
 scan_by prints = record {
-  by = by_pair_or (pair_of (unpacked (drop PAIR_AT prints)))
-      (fingerprints_in (unpacked (slice_range prints 1 PAIR_AT)));
+  fingerprints = fingerprints_in (unpacked (slice_range prints 1 PAIR_AT));
+  pair = pair_of (unpacked (drop PAIR_AT prints));
   skipped = (past_skipped prints - 1) % 256;
 }
 

@@ -17,7 +17,7 @@ use crate::longest_len;
 use crate::walk::{NOTHING, Table};
 use literal_base::count::Tally;
 use literal_base::{Match, Span};
-use literal_fingerprints::{BYTES, CandidateScan, Fingerprints, PAIR_BYTES, RarePair, ScanBy};
+use literal_fingerprints::{BYTES, CandidateScan, Fingerprints, PAIR_BYTES, RarePair};
 use literal_ids::PatternID;
 use std::alloc::{AllocError, Global};
 use std::error::Error;
@@ -190,16 +190,20 @@ pub fn scan_numbers(scan: Option<&CandidateScan>) -> [u32; SCAN_LEN]
         return numbers;
     };
     numbers[0] = scan.skipped as u32 + 1;
-    match &scan.by {
-        ScanBy::Fingerprints(fingerprints) => {
-            pack(&fingerprints.to_bytes(), &mut numbers[1..PAIR_AT]);
-            numbers
-        }
-        ScanBy::Pair(pair) => {
-            pack(&pair.to_bytes(), &mut numbers[PAIR_AT..]);
-            numbers
-        }
+    numbers[PAIR_AT..].copy_from_slice(&pair_numbers(&scan.pair));
+    pack(&scan.fingerprints.to_bytes(), &mut numbers[1..PAIR_AT]);
+    numbers
+}
+
+/// The numbers of a rare pair, and zeros if there is none.
+fn pair_numbers(pair: &Option<RarePair>) -> [u32; PAIR_BYTES / 4]
+    ensures { pair_of (unpacked result) ≡ pair.now }
+{
+    let mut numbers = [0; PAIR_BYTES / 4];
+    if let Some(pair) = pair {
+        pack(&pair.to_bytes(), &mut numbers);
     }
+    numbers
 }
 
 /// Writes bytes into numbers, four in each, the first in its lowest eight bits.
@@ -240,15 +244,13 @@ fn scan_by(prints: &[u32]) -> CandidateScan
     requires { length prints.now ≡ SCAN_LEN }
     ensures { result ≡ scan_by prints.now }
 {
-    let skipped = (prints[0].saturating_sub(1) % 256) as u8;
-    if let Some(pair) = pair_by(&prints[PAIR_AT..SCAN_LEN]) {
-        let by = ScanBy::Pair(pair);
-        return CandidateScan { by, skipped };
-    }
     let mut bytes = [0; BYTES];
     unpack(&prints[1..PAIR_AT], &mut bytes);
-    let by = ScanBy::Fingerprints(Fingerprints::from_bytes(&bytes));
-    CandidateScan { by, skipped }
+    CandidateScan {
+        fingerprints: Fingerprints::from_bytes(&bytes),
+        pair: pair_by(&prints[PAIR_AT..SCAN_LEN]),
+        skipped: (prints[0].saturating_sub(1) % 256) as u8,
+    }
 }
 
 /// The rare pair of its numbers, if these are of one.

@@ -36,7 +36,7 @@ use Rattle.literal_search.specs.States.{HasTooManyStates}
 use Rattle.literal_search.proofs.lemmas.Automaton.{all_in_haystack, in_haystack, in_part}
 use Rattle.literal_search.proofs.lemmas.Rows.{none_few, one_class}
 use Rattle.literal_search.proofs.lemmas.Walk.{slice_push}
-use Rattle.std.specs.List.{IsAmong, filter}
+use Rattle.std.specs.List.{All, AllPairs, IsAmong, filter}
 use Rattle.std.proofs.Common.{cond, suc, true, zero, ⊎_elim}
 use Rattle.std.proofs.lemmas.Bool.{cases_Bool}
 use Rattle.std.proofs.lemmas.List.Elements.{All-filter, filter_passes}

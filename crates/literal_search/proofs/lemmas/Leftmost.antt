@@ -13,10 +13,9 @@ use Rattle.literal_base.specs.declared.search.Span.{Span}
 use Rattle.literal_search.specs.Inside.Backward.{AreBackFor, AreMarks, IsMark, NoneBeginsAt, NoneFrom, StandsDown}
 use Rattle.literal_search.specs.Inside.Backward.{back_tables_by}
 use Rattle.literal_search.specs.Inside.Leftmost.{AreLanes, AreMarksBehind, AreSteps, HaveRows, IsFirstBegun, IsLane}
-use Rattle.literal_fingerprints.specs.CandidateScans.{ahead_by_scan}
+use Rattle.literal_fingerprints.specs.CandidateScans.{ahead_by_pair}
 use Rattle.literal_fingerprints.specs.declared.candidates.CandidateScan.{CandidateScan}
-use Rattle.literal_fingerprints.specs.declared.candidates.ScanBy.{ScanBy}
-use Rattle.literal_fingerprints.specs.declared.candidates.ScanBy.TheVariants.{Fingerprints, Pair}
+use Rattle.literal_fingerprints.specs.declared.pair.RarePair.{RarePair}
 use Rattle.literal_search.specs.Inside.Leftmost.{IsLimit, ahead_by}
 use Rattle.literal_search.specs.Inside.Leftmost.{IsStep, NoneBehind}
 use Rattle.literal_search.specs.Inside.Leftmost.{ReadsFor}
@@ -28,14 +27,14 @@ use Rattle.literal_search.specs.declared.leftmost.Lanes.{Lanes}
 use Rattle.literal_search.specs.declared.prepared.Damaged.{Damaged}
 use Rattle.literal_search.proofs.lemmas.Backward.{mark_in, read_one, stands_nowhere}
 
-by_few : (by : ScanBy) → ahead_by_scan by ≤ 37
-by_few (Fingerprints f) = omega arith
-by_few (Pair pair) = omega arith
+pair_few : (pair : Option RarePair) → ahead_by_pair pair ≤ 37
+pair_few None = omega arith
+pair_few (Some pair) = omega arith
 
 -- a scan for candidates reads few bytes ahead
 pub ahead_few : (scan : Option CandidateScan) → ahead_by scan ≤ 37
 ahead_few None = omega arith
-ahead_few (Some scan) = by_few scan.by
+ahead_few (Some scan) = pair_few scan.pair
 
 -- a walk that has read nothing
 pub lane_begins : (p : BackTables) → AreBackTables p → (haystack : List ℕ) → ((i : ℕ) → get_or haystack i 0 < 256)
