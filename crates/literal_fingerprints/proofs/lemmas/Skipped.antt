@@ -1,8 +1,8 @@
 -- Patterns without their first bytes.
-use Rattle.std.proofs.Common.{◌≡◌, ℕ, ◌+◌, ◌-◌, ◌<◌, ◌≤◌, ◌∙◌, Bool, false, true, List, [], ap, arith, drop, get_or}
-use Rattle.std.proofs.Common.{◌∷◌, length, map, min, refl, slice_range, subst, suc, sym, zero}
+use Rattle.std.proofs.Common.{◌≡◌, ℕ, ◌+◌, ◌-◌, ◌<◌, ◌≤◌, ◌∙◌, Bool, false, true, List, [], ap, arith, drop}
+use Rattle.std.proofs.Common.{◌∷◌, length, min, refl, slice_range, subst, suc, sym, zero}
 use Rattle.std.proofs.Math.Seq.{drop-nil}
-use Rattle.std.proofs.lemmas.List.{drop-drop, drop-map, drop-take, get_or-map, length-drop, length-map}
+use Rattle.std.proofs.lemmas.List.{drop-drop, drop-map, drop-take, length-drop, length-map}
 use Rattle.std.specs.Char.{to_ascii_lowercase}
 use Rattle.literal_base.specs.Occurs.{AreEqualBytes, Occurs, between, pattern_at}
 use Rattle.literal_base.specs.declared.search.Span.{Span}

@@ -18,7 +18,7 @@ use literal_base::count::Tally;
 use std::simd::prelude::*;
 
 /// If the low halves of the tables have at most this many bits, few places pass by these halves alone.
-const FEW_BITS: u32 = 52;
+const FEW_BITS: u32 = 60;
 
 impl Fingerprints {
     /// Continues a scan from an offset before which all bytes of the span are looked up: `bytes` are the last of them.

@@ -1,4 +1,4 @@
-use Rattle.std.proofs.Common.{◌≡◌, ◌<◌, ◌∙◌, arith, get_or, length, subst, sym, true}
+use Rattle.std.proofs.Common.{◌≡◌, ◌<◌, ◌∙◌, arith, get_or, length, subst, true}
 use Rattle.std.proofs.lemmas.List.{length-set}
 use Rattle.literal_base.specs.Occurs.{same_byte}
 use Rattle.literal_fingerprints.specs.Inside.Buckets.{HasByte, halves_at}

@@ -1,4 +1,4 @@
-use Rattle.std.proofs.Common.{◌≡◌, ◌/◌, ◌%◌, ◌∙◌, arith, bit_and, get_or, inl, inr, subst, sym}
+use Rattle.std.proofs.Common.{◌/◌, ◌%◌, arith, bit_and, get_or, inl, inr, subst}
 use Rattle.std.proofs.lemmas.Bool.{cases_lt}
 use Rattle.literal_fingerprints.proofs.lemmas.Sets.{IsWithin, both_of, left_within, right_within, within}
 use Rattle.literal_fingerprints.proofs.nibbles.Nibbles.of_any_byte.Goals as goal
