@@ -4,8 +4,8 @@
   checks/definitions_page.py
 
 A heading of the page names a crate and files of its specs, the first with its folder and the others in the same one.
-The table below it gets a row for each definition in these files: its name, and the comment above it. A name that has a
-row keeps its place, and the arguments that stand there; the others come last.
+The table below it gets a row for each definition in these files: its name, the comment above it, and the fields of a
+record. A name that has a row keeps its place, and the arguments that stand there; the others come last.
 
 A table with examples is a choice of such definitions: its rows and examples are written by hand, and stay. Only the
 comments are written anew. A definition that has a row there gets none in a later table. All else on the page stays.
@@ -15,8 +15,11 @@ from pathlib import Path
 
 PATH = "docs/DEFINITIONS.md"
 
-# A definition in a file of specs: the comment above it, and its name.
-DEFINITION = re.compile(r"((?:^ *-- .*\n)*)^ *(?:abbrev pub|unfoldable pub|pub (?:record|data)) ([^\s:(]+)", re.M)
+# A definition in a file of specs: the comment above it, its name, and what follows, up to an empty line.
+DEFINITION = re.compile(
+    r"((?:^ *-- .*\n)*)^ *(?:abbrev pub|unfoldable pub|pub (record|data)) ([^\s:(]+)((?:.*\n)(?:.+\n)*)", re.M
+)
+FIELD = re.compile(r"^ +pub ([^\s:]+) :", re.M)
 WITH_EXAMPLES = "| Name | Meaning | Example |\n|---|---|---|\n"
 TABLE = re.compile(rf"^(\| Name \| Meaning \|\n\|---\|---\|\n|{re.escape(WITH_EXAMPLES)})((?:\|.*\n)*)", re.M)
 
@@ -34,9 +37,11 @@ def sections_of(page):
 
 
 def definitions_in(text):
-    """The names of the definitions of a file, each with its comment in one line."""
-    for comment, name in DEFINITION.findall(text):
-        yield name, " ".join(line.strip().removeprefix("-- ") for line in comment.splitlines())
+    """The names of the definitions of a file, each with its comment in one line, and with the fields of a record."""
+    for comment, kind, name, rest in DEFINITION.findall(text):
+        said = " ".join(line.strip().removeprefix("-- ") for line in comment.splitlines())
+        fields = ", ".join(f"`{field}`" for field in FIELD.findall(rest)) if kind == "record" else ""
+        yield name, f"{said}. Fields: {fields}" if fields else said
 
 
 def name_in(row):

@@ -29,7 +29,7 @@ CITATIONS = re.compile(
 # What is not read, by its path from the top: git's own, what is built, digests, and what Python keeps of the checks.
 # Elsewhere a folder of such a name is one of proofs, of a function that is called so.
 NOT_READ = re.compile(
-    r"\.git|dist/\w+-linux-gnu|checks/refused|(?:crates/\w+/|bindings/)?out|bindings/rust/target"
+    r"\.git|dist/\w+-linux-gnu|checks/refused|(?:crates/\w+/|bindings/)?out|bindings/rust/(?:lib|target)"
     r"|(?:checks|bindings/(?:c|\w+/\w+))/__pycache__|.*\.so"
 )
 
@@ -39,7 +39,7 @@ MISSING = re.compile(re.escape(f"| {definitions_page.MISSING} |"))
 
 # Where an example on the page for callers, of code or of a proof, may stand.
 EXAMPLES = {
-    "rust": re.compile(r"crates/\w+/src/(?:\w+/)*tests\.rt|crates/literal_examples/src/\w+\.rt"),
+    "rust": re.compile(r"crates/\w+/src/(?:\w+/)*tests\.rt|crates/(?:literal_examples|test_contracts)/src/\w+\.rt"),
     "antt": re.compile(r"crates/\w+/proofs/.*\.antt"),
 }
 
@@ -101,7 +101,7 @@ def sizes(texts):
 def unsafe(texts):
     """No code is unsafe. The word stands at the exports of the crate for C alone."""
     for path, text in texts.items():
-        exports = "#[unsafe(no_mangle)]" if path == "crates/literal_c/src/lib.rt" else ""
+        exports = "#[unsafe(no_mangle)]" if path.startswith("crates/literal_c/src/") else ""
         if path.endswith(".rt") and "unsafe" in text and re.search(r"\bunsafe\b", code_of(text).replace(exports, "")):
             yield f"{path}: unsafe code"
 
@@ -120,7 +120,7 @@ def definitions(texts):
              if definitions_page.WITH_EXAMPLES not in part}
     for path, text in texts.items():
         found = list(definitions_page.definitions_in(text)) if re.match(r"crates/\w+/specs/.*\.antt$", path) else []
-        if found and path not in named and not re.search(r"/Inside\b", path) and "/literal_compared/" not in path:
+        if found and path not in named and not re.search(r"/Inside\b", path) and "/test_compared/" not in path:
             yield f"{path} is named by no heading of {definitions_page.PATH}"
         for name in (name for name, comment in found if not comment):
             yield f"{path}: {name} has no comment"

@@ -15,8 +15,8 @@ from rattle_source import BRACKETS, closing, functions_in, plain_code, without_t
 
 # Crates of callers, tests and examples, which no rule here reads.
 TEST_CRATES = (
-    "literal_calls", "literal_search_calls", "literal_compared", "literal_examples", "litscan", "refused_memory",
-    "worked_cases",
+    "test_calls", "test_compared", "test_contracts", "test_refused_memory", "test_search_calls", "test_worked_cases",
+    "literal_examples", "litscan",
 )
 
 # Crates whose code may have a haystack in hand.
@@ -33,9 +33,11 @@ CONFIRMING = "crates/literal_prefilters/src/prefilter/confirming.rt"
 MAKERS = (
     "Builder::build", "Searcher::find_in", "Searcher::find_iter", "Prefilter::find_in", "ConfirmingSearch::find_in",
     "Search::find_in", "Search::match_in", "Search::find_all_in", "MatchesIterator::next", "StartsIterator::next",
-    "WholeWords::find_in", "WholeWordMatchesIterator::next",
-    "Overlapping::earliest_end", "OverlappingMatchesIterator::next", "Prepared::find_in", "PreparedMatches::next_match",
-    "PreparedOverlapping::earliest_end", "PreparedOverlappingMatches::next_match",
+    "Search::replace_all", "WholeWords::find_in", "WholeWordMatchesIterator::next",
+    "Overlapping::earliest_end", "Overlapping::count_overlapping_in", "OverlappingMatchesIterator::next",
+    "Prepared::find_in", "PreparedMatches::next_match",
+    "PreparedOverlapping::earliest_end", "PreparedOverlapping::count_overlapping_in",
+    "PreparedOverlappingMatches::next_match",
     "PreparedWords::find_in", "PreparedWordMatches::next_match",
 )
 
@@ -53,7 +55,7 @@ TICKS = {
     "crates/literal_prefilters/src/prefilter/byte_table.rt": {"ByteTable::find": ("tick_scanned", "9327f693401c")},
     CONFIRMING: {"confirming::confirm": ("tick_tried", ""), "confirming::confirm_by_table": ("tick_tried", "")},
     "crates/literal_search/src/walk.rt": {
-        "Table::code_at": ("tick_scanned", "28ba682a56cc"), "walk::class_by": ("tick_scanned", "5af4fe0d0b4f"),
+        "Table::code_at": ("tick_scanned", "25dd60819038"), "walk::class_by": ("tick_scanned", "5af4fe0d0b4f"),
     },
     "crates/literal_search/src/word_search.rt": {"Words::is_word_at": ("tick_scanned", "99fb2808b128")},
 }
@@ -172,7 +174,7 @@ def odd_uses(code, calls, name):
 
     code = BOUND.sub(passed_over, LENGTH.sub(passed_over, code))
     code = HASHED.sub(passed_over, code) if name.endswith("RabinKarp::walk") else code
-    code = COPIED.sub(passed_over, code) if re.search("(Search|WholeWords)::replace_all(_with|_str)?$", name) else code
+    code = COPIED.sub(passed_over, code) if re.search(r"(Search|WholeWords)::replace_all\w*$", name) else code
     code = calls.sub(lambda found: HANDED.sub(passed_over, found[0]), code)
     return [found.start() for found in re.finditer(r"\bhaystack\b", code)]
 

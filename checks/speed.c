@@ -7,7 +7,7 @@
  *   build  prepares the search                       0
  *   count  counts all matches that do not overlap    their number
  *   list   lists them                                a sum of their patterns, starts and ends
- *   every  lists or counts every occurrence          their number
+ *   every  counts every occurrence                   their number
  *   first  asks for a match in each 80 bytes         how many have one
  */
 #define _GNU_SOURCE
@@ -24,7 +24,7 @@ static uint8_t text[TEXT], patterns[TEXT];
 static size_t text_len, patterns_len, ends[WORDS], ends_len;
 static uint32_t prepared[PLACES], overlapping[PLACES];
 static size_t prepared_len, overlapping_len;
-static literal_match found[TEXT];
+static literal_match found[PAGE];
 
 static size_t search_build(void) {
     assert(literal_prepare(LITERAL_LEFTMOST_FIRST, false, patterns, patterns_len, ends, ends_len, prepared, PLACES,
@@ -50,13 +50,13 @@ static size_t search_list(void) {
 }
 
 static size_t search_every(void) {
-    literal_page page;
+    size_t count;
     if (!overlapping_len)
         assert(literal_prepare_overlapping(false, patterns, patterns_len, ends, ends_len, overlapping, PLACES,
                                            &overlapping_len) == LITERAL_OK);
-    assert(literal_find_overlapping_in(overlapping, overlapping_len, text, text_len, 0, text_len, found, TEXT, &page) ==
-           LITERAL_OK && page.is_last);
-    return page.written;
+    assert(literal_count_overlapping_in(overlapping, overlapping_len, text, text_len, 0, text_len, &count) ==
+           LITERAL_OK);
+    return count;
 }
 
 static bool search_has(const uint8_t *line) {

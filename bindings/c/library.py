@@ -6,8 +6,11 @@ from pathlib import Path
 
 BINDINGS = Path(__file__).resolve().parent.parent
 DIST = BINDINGS.parent / "dist/x86_64-linux-gnu"
-HEADER = re.sub(r"/\*.*?\*/", "", (BINDINGS / "c/literal_search.h").read_text("utf-8"), flags=re.S)
+# (up to the functions that the header itself defines)
+DECLARED = (BINDINGS / "c/literal_search.h").read_text("utf-8").partition("/* What follows is defined here")[0]
+HEADER = re.sub(r"/\*.*?\*/", "", DECLARED, flags=re.S)
 TYPES = {
+    "uint8_t": ctypes.c_uint8,
     "uint32_t": ctypes.c_uint32,
     "int32_t": ctypes.c_int32,
     "size_t": ctypes.c_size_t,
@@ -36,7 +39,7 @@ def type_of(declared_type):
 
 for struct, fields in STRUCTS.items():
     TYPES[struct] = type(struct, (ctypes.Structure,), {"_fields_": [(name, type_of(of)) for of, name in fields]})
-Match, Page, Answer = (TYPES[f"literal_{name}"] for name in ("match", "page", "answer"))
+Match, Page, Answer, Info = (TYPES[f"literal_{name}"] for name in ("match", "page", "answer", "info"))
 
 
 def load():

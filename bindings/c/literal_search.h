@@ -1,6 +1,17 @@
 /* Multi-pattern string search, formally verified: the leftmost match, all matches that do not overlap, or every
  * occurrence.
  *
+ *   const char *words[] = {"apple", "maple"}, *text = "maple in their apple";
+ *   int32_t status;
+ *   literal_search *search = literal_new_of_words(LITERAL_LEFTMOST_FIRST, false, words, 2, &status);
+ *   literal_match found;
+ *   if (search == NULL)
+ *       fprintf(stderr, "%s\n", literal_status_text(status));
+ *   else
+ *       for (size_t at = 0; literal_next(search, text, strlen(text), at, &found); at = found.end)
+ *           printf("%zu %zu %zu\n", found.pattern, found.start, found.end);
+ *   literal_free(search);
+ *
  * Patterns and haystacks are bytes, and every offset counts bytes from 0. A list is passed as one buffer and the ends
  * of its pieces: piece i is the bytes from ends[i - 1] (for the first, from 0) up to and not including ends[i]. The
  * ends must not decrease, and the last must not exceed the buffer. Bytes after the last end belong to no piece.
@@ -12,14 +23,21 @@
  *   LITERAL_LEFTMOST_FIRST     the earliest in the list wins
  *   LITERAL_LEFTMOST_LONGEST   the longest wins, and of several equally long ones the earliest in the list
  *
- * With ignore_case A to Z equal a to z, in patterns and haystacks; all other bytes are compared as they are.
+ * With ignore_case A to Z equal a to z, in patterns and haystacks; all other bytes are compared as they are. To ignore
+ * Unicode's case, see literal_fold.
  *
- * There are two ways to search. literal_find, literal_find_all, literal_find_overlapping and literal_find_each take the
- * patterns, and each call builds the search. To search more than once, let literal_prepare write the search into an
- * array, and pass this array to the functions whose names end in _in; literal_find_overlapping_in needs an array from
- * literal_prepare_overlapping. They build nothing, and allocate nothing. The arrays may be copied, or kept in a file
- * for machines of the same byte order. If the format differs between two versions of the library, an array of the other
- * version is LITERAL_DAMAGED: its first number is the format. Then prepare the search again.
+ * There are three ways to search:
+ *
+ *   1. literal_find, literal_find_all, literal_find_overlapping, literal_count_overlapping and literal_find_each take
+ *      the patterns, and each call builds the search.
+ *   2. To search more than once, let literal_prepare write the search into an array, and pass this array to the
+ *      functions whose names end in _in. Those that have overlapping in their names need an array from
+ *      literal_prepare_overlapping. They build nothing, and allocate nothing.
+ *   3. literal_new and literal_new_overlapping allocate the array; the functions for it are defined at the end.
+ *
+ * Arrays may be copied, or kept in a file for machines of the same byte order. If the format differs between two
+ * versions of the library, an array of the other version is LITERAL_DAMAGED: its first number is the format. Then
+ * prepare the search again.
  *
  * A call looks up at most three times the bytes to search, with one exception: if a pattern has more than 1,024 bytes,
  * a call for all matches, or their count, searches anew after each match. Then it looks up at most eleven times the
@@ -39,19 +57,19 @@
  *
  * A call writes only if it returns LITERAL_OK; after any other status the lent memory is unchanged. There are
  * exceptions: with LITERAL_TOO_SHORT, calls that prepare an array report the length that it needs; with LITERAL_NONE,
- * literal_find_so_far_in reports where to go on; with LITERAL_DAMAGED, some of the places for matches or answers may be
- * written.
+ * literal_find_so_far_in reports where to go on; with LITERAL_DAMAGED, some of the entries for matches or answers may
+ * be written.
  *
  * The table of a search has a row for each different suffix of a pattern (for every occurrence: each different prefix).
- * A row has a place for each different byte of the patterns, and two more (one, if all 256 occur). So LITERAL_TOO_LARGE
- * depends on the patterns, not on memory: a pattern of 8.4 million bytes is too large with all 256 different bytes, one
- * of 77 million with 26. A pattern that alone is too large is refused by its length. If only several together are, the
- * rows are made first, and LITERAL_OUT_OF_MEMORY may come instead. A place needs 4 bytes in a prepared array, and two
- * to four times as much besides while that is written. With LITERAL_LEFTMOST_FIRST a pattern that begins with an
- * earlier one never matches: it adds no rows to a prepared array, but counts for LITERAL_TOO_LARGE.
+ * A row has an entry for each different byte of the patterns, and two more (one, if all 256 occur). So
+ * LITERAL_TOO_LARGE depends on the patterns, not on memory: a pattern of 8.4 million bytes is too large with all 256
+ * different bytes, one of 77 million with 26. A pattern that alone is too large is refused by its length. If only
+ * several together are, the rows are made first, and LITERAL_OUT_OF_MEMORY may come instead. An entry needs 4 bytes in
+ * a prepared array, and two to four times as much besides while that is written. With LITERAL_LEFTMOST_FIRST a pattern
+ * that begins with an earlier one never matches: it adds no rows to a prepared array, but counts for LITERAL_TOO_LARGE.
  *
- * No call keeps anything after it returns. There is nothing to free, and any thread may call at any time. A call needs
- * less than 16 KiB of stack.
+ * No call keeps anything after it returns, and only a search of literal_new is to be freed. Any thread may call at any
+ * time. A call needs less than 16 KiB of stack.
  *
  * The caller must ensure what no call can check:
  *   - Each pointer is aligned for its type and points to at least as many elements as its length says. With a length of
@@ -73,6 +91,7 @@
 #include <stdbool.h>
 #include <stddef.h>
 #include <stdint.h>
+#include <stdlib.h>
 #include <string.h>
 
 #ifdef __cplusplus
@@ -89,7 +108,7 @@ extern "C" {
 #define LITERAL_NO_SEARCHER 2    /* the patterns can't be searched for: one is empty, or there are 2^31 or more */
 #define LITERAL_OUT_OF_MEMORY 3  /* malloc or realloc refused a request; there are patterns that can be searched for */
 #define LITERAL_BAD_ARGUMENTS 4  /* the arguments contradict each other, as said above and by each function */
-#define LITERAL_TOO_LARGE 5      /* only where the table of the search would have 2^31 places or more */
+#define LITERAL_TOO_LARGE 5      /* only where the table of the search would have 2^31 entries or more */
 #define LITERAL_TOO_SHORT 6      /* the lent array is too short */
 #define LITERAL_DAMAGED 7        /* the array is not as it was written for such a call */
 
@@ -112,6 +131,16 @@ typedef struct literal_page {
     uint32_t is_last;
 } literal_page;
 
+/* What an array was prepared for: the number of patterns, the lengths of the shortest and of the longest one (0 without
+ * patterns), and 1 for literal_prepare_overlapping, 0 for literal_prepare. An array does not tell the kind of match,
+ * nor whether case is ignored. */
+typedef struct literal_info {
+    size_t patterns;
+    size_t shortest;
+    size_t longest;
+    uint32_t is_overlapping;
+} literal_info;
+
 /* The answer for one haystack: LITERAL_OK and its leftmost match, or LITERAL_NONE and a match of zeros. */
 typedef struct literal_answer {
     int32_t status;
@@ -120,7 +149,8 @@ typedef struct literal_answer {
 
 /* Joins words that end in a zero byte into a buffer of patterns and its ends, both memory of the caller: `ends` has
  * room for words_len ends, and `patterns` for patterns_len bytes. Returns the length of all words together. If that is
- * more than patterns_len, nothing is written: call again with more room. */
+ * more than patterns_len, nothing is written: call again with more room. If all words are empty, the ends are written
+ * even with patterns_len 0. */
 static inline size_t literal_join(const char *const *words, size_t words_len, uint8_t *patterns, size_t patterns_len,
                                   size_t *ends) {
     size_t at = 0;
@@ -141,6 +171,13 @@ static inline size_t literal_join(const char *const *words, size_t words_len, ui
 /* The version of the linked or loaded library, as a number like LITERAL_VERSION_NUMBER. If the two differ, the program
  * was compiled with the header of another version. */
 uint32_t literal_version(void);
+
+/* Replaces each whole character of a text in UTF-8 by its simple case folding (CaseFolding.txt of Unicode 15.0.0,
+ * statuses C and S), if that has as many bytes. It has in all cases but some thirty, such as the Kelvin sign. All other
+ * bytes, and so all offsets, stay the same. To ignore Unicode's case, search for folded patterns in a folded text.
+ *
+ * LITERAL_OK  the text is folded */
+int32_t literal_fold(uint8_t *text, size_t text_len);
 
 /* Whether the patterns can be searched for, by either kind, with case kept or ignored. It allocates nothing.
  *
@@ -165,14 +202,13 @@ int32_t literal_find(uint32_t kind, bool ignore_case, const uint8_t *patterns, s
  * found[page->written - 1] are written; the rest of found is unchanged. To end before the end of the haystack, pass a
  * shorter haystack_len.
  *
- * Provide room for at least one match. With found_len 0 and a match left, nothing is written, page->next is the start
- * of that match, and a loop would never end. After its last match a page looks for the next one: page->next is its
- * start, so that the next page reads no bytes before it again. A page may also look up some 2,000 bytes after that
- * (more, if a pattern has more than 1,024), which the next page looks up again. So provide room for hundreds of matches
- * if there are many; for a single match literal_find is faster.
+ * After its last match a page looks for the next one: page->next is its start, so that the next page reads no bytes
+ * before it again. A page may also look up some 2,000 bytes after that (more, if a pattern has more than 1,024), which
+ * the next page looks up again. So provide room for hundreds of matches if there are many; for a single match
+ * literal_find is faster.
  *
  * LITERAL_OK             found and page are written, also if no pattern occurs (then page->written is 0)
- * LITERAL_BAD_ARGUMENTS  from is above haystack_len */
+ * LITERAL_BAD_ARGUMENTS  from is above haystack_len, or found_len is 0: a loop over such pages would never end */
 int32_t literal_find_all(uint32_t kind, bool ignore_case, const uint8_t *patterns, size_t patterns_len,
                          const size_t *ends, size_t ends_len, const uint8_t *haystack, size_t haystack_len,
                          size_t from, literal_match *found, size_t found_len, literal_page *page);
@@ -180,13 +216,22 @@ int32_t literal_find_all(uint32_t kind, bool ignore_case, const uint8_t *pattern
 /* Every occurrence of every pattern in the bytes of the haystack from start up to and not including end, overlapping
  * ones too, ordered by ends and then by numbers of patterns, up to found_len. The rest of found is unchanged.
  * page->next is the end of the last occurrence written, or start if there is none: all occurrences that end before it
- * are written. page->is_last is 1 if there are no more, else 0: then call again with more room, from the same start.
+ * are written. page->is_last is 1 if there are no more, else 0: then call again with more room, from the same start, or
+ * go on by literal_find_overlapping_from_in.
  *
  * LITERAL_OK             found and page are written, also if no pattern occurs (then page->written is 0)
- * LITERAL_BAD_ARGUMENTS  start is above end, or end above haystack_len */
+ * LITERAL_BAD_ARGUMENTS  start is above end, end above haystack_len, or found_len is 0 */
 int32_t literal_find_overlapping(bool ignore_case, const uint8_t *patterns, size_t patterns_len, const size_t *ends,
                                  size_t ends_len, const uint8_t *haystack, size_t haystack_len, size_t start,
                                  size_t end, literal_match *found, size_t found_len, literal_page *page);
+
+/* How many occurrences literal_find_overlapping would write in all, without an array for them.
+ *
+ * LITERAL_OK             count holds the number, or SIZE_MAX if there are as many or more
+ * LITERAL_BAD_ARGUMENTS  start is above end, or end above haystack_len */
+int32_t literal_count_overlapping(bool ignore_case, const uint8_t *patterns, size_t patterns_len, const size_t *ends,
+                                  size_t ends_len, const uint8_t *haystack, size_t haystack_len, size_t start,
+                                  size_t end, size_t *count);
 
 /* The leftmost match of each of many haystacks, passed in one buffer like patterns. The search is built once for all of
  * them. answers[i] is the answer for haystack i, with offsets from the beginning of that haystack.
@@ -199,20 +244,19 @@ int32_t literal_find_each(uint32_t kind, bool ignore_case, const uint8_t *patter
                           const size_t *haystack_ends, size_t haystack_ends_len, literal_answer *answers,
                           size_t answers_len);
 
-/* Writes a search for the patterns into the first *needed places of an array. *needed is also written if the array is
+/* Writes a search for the patterns into the first *needed entries of an array. *needed is also written if the array is
  * too short: a first call with prepared_len 0 asks for it. The functions below accept an array that begins with these
- * places.
+ * entries.
  *
  * LITERAL_OK             prepared and needed are written
- * LITERAL_TOO_SHORT      the array has fewer than *needed places, and is unchanged */
+ * LITERAL_TOO_SHORT      the array has fewer than *needed entries, and is unchanged */
 int32_t literal_prepare(uint32_t kind, bool ignore_case, const uint8_t *patterns, size_t patterns_len,
                         const size_t *ends, size_t ends_len, uint32_t *prepared, size_t prepared_len, size_t *needed);
 
-/* The same for literal_find_overlapping_in. The array also lists, for each pattern, the patterns that are a suffix of
- * it.
+/* The same for every occurrence. The array also lists, for each pattern, the patterns that are a suffix of it.
  *
  * LITERAL_OK             prepared and needed are written
- * LITERAL_TOO_SHORT      the array has fewer than *needed places, and is unchanged
+ * LITERAL_TOO_SHORT      the array has fewer than *needed entries, and is unchanged
  * LITERAL_OUT_OF_MEMORY  also if the lists would have 2^32 numbers or more */
 int32_t literal_prepare_overlapping(bool ignore_case, const uint8_t *patterns, size_t patterns_len, const size_t *ends,
                                     size_t ends_len, uint32_t *prepared, size_t prepared_len, size_t *needed);
@@ -227,14 +271,21 @@ int32_t literal_check_prepared(const uint32_t *prepared, size_t prepared_len);
 /* The same for an array of literal_prepare_overlapping. */
 int32_t literal_check_overlapping(const uint32_t *prepared, size_t prepared_len);
 
-/* The functions below search by an array of literal_prepare, and literal_find_overlapping_in by an array of
- * literal_prepare_overlapping. They check its version and its lengths, not all of it: if these do not fit such a
+/* What an array of literal_prepare or literal_prepare_overlapping was prepared for. It checks the version and the
+ * lengths, not all of the array; if other numbers were changed, the lengths of patterns may be wrong.
+ *
+ * LITERAL_OK       info is written
+ * LITERAL_DAMAGED  the array is of neither function, of another version, or too short; info is unchanged */
+int32_t literal_prepared_info(const uint32_t *prepared, size_t prepared_len, literal_info *info);
+
+/* The functions below search by an array of literal_prepare, and those that have overlapping in their names by an array
+ * of literal_prepare_overlapping. They check its version and its lengths, not all of it: if these do not fit such a
  * search, as in an array that is too short or of the other kind, the answer is always LITERAL_DAMAGED, if the other
  * arguments are right. If other numbers of the array were changed, each function still returns, and writes only to the
- * lent places. A match lies in the bytes that were searched, and its pattern is below prepared[3], the array's number
+ * lent memory. A match lies in the bytes that were searched, and its pattern is below prepared[3], the array's number
  * of patterns. A page is the last, or fills found; page->next of literal_find_all_in is at least page->written bytes
- * after start, so with room for a match a loop over pages ends. But the answer may be wrong, with LITERAL_DAMAGED or
- * without, and with LITERAL_DAMAGED some places for matches or answers may be written. */
+ * after start, so a loop over pages ends. But the answer may be wrong, with LITERAL_DAMAGED or without, and with
+ * LITERAL_DAMAGED some entries for matches or answers may be written. */
 
 /* Like literal_find.
  *
@@ -265,17 +316,37 @@ int32_t literal_find_so_far_in(const uint32_t *prepared, size_t prepared_len, co
  * other numbers of the array were changed.
  *
  * LITERAL_OK             found and page are written, also if no pattern occurs (then page->written is 0)
- * LITERAL_BAD_ARGUMENTS  start is above end, or end above haystack_len */
+ * LITERAL_BAD_ARGUMENTS  start is above end, end above haystack_len, or found_len is 0 */
 int32_t literal_find_all_in(const uint32_t *prepared, size_t prepared_len, const uint8_t *haystack, size_t haystack_len,
                             size_t start, size_t end, literal_match *found, size_t found_len, literal_page *page);
 
 /* Like literal_find_overlapping, by an array of literal_prepare_overlapping.
  *
  * LITERAL_OK             found and page are written, also if no pattern occurs (then page->written is 0)
- * LITERAL_BAD_ARGUMENTS  start is above end, or end above haystack_len */
+ * LITERAL_BAD_ARGUMENTS  start is above end, end above haystack_len, or found_len is 0 */
 int32_t literal_find_overlapping_in(const uint32_t *prepared, size_t prepared_len, const uint8_t *haystack,
                                     size_t haystack_len, size_t start, size_t end, literal_match *found,
                                     size_t found_len, literal_page *page);
+
+/* Like literal_find_overlapping_in, but only the occurrences that end after next, or end at next and have at least this
+ * pattern number. Begin with next = start and pattern = 0. To go on after a page, pass the end of its last match as
+ * next, and one more than the pattern number of that match as pattern: the pages together have the same occurrences as
+ * one long page. With any array no match comes before what was passed, so a loop over pages ends. Without a match
+ * page->next is next. A page reads again as many bytes before next as the longest pattern has. So provide more room if
+ * patterns are long.
+ *
+ * LITERAL_OK             found and page are written, also if no pattern occurs (then page->written is 0)
+ * LITERAL_BAD_ARGUMENTS  start is above next, next above end, end above haystack_len, or found_len is 0 */
+int32_t literal_find_overlapping_from_in(const uint32_t *prepared, size_t prepared_len, const uint8_t *haystack,
+                                         size_t haystack_len, size_t start, size_t end, size_t next, size_t pattern,
+                                         literal_match *found, size_t found_len, literal_page *page);
+
+/* Like literal_count_overlapping.
+ *
+ * LITERAL_OK             count holds the number, or SIZE_MAX if there are as many or more
+ * LITERAL_BAD_ARGUMENTS  start is above end, or end above haystack_len */
+int32_t literal_count_overlapping_in(const uint32_t *prepared, size_t prepared_len, const uint8_t *haystack,
+                                     size_t haystack_len, size_t start, size_t end, size_t *count);
 
 /* Like literal_find_each.
  *
@@ -309,7 +380,7 @@ int32_t literal_find_word_in(uint32_t kind, const uint32_t *prepared, size_t pre
  * one after each. Pages are as of literal_find_all_in.
  *
  * LITERAL_OK             found and page are written, also if there is no whole word (then page->written is 0)
- * LITERAL_BAD_ARGUMENTS  kind is none, start is above end, or end above haystack_len */
+ * LITERAL_BAD_ARGUMENTS  kind is none, start is above end, end above haystack_len, or found_len is 0 */
 int32_t literal_find_all_words_in(uint32_t kind, const uint32_t *prepared, size_t prepared_len, const uint8_t *haystack,
                                   size_t haystack_len, size_t start, size_t end, literal_match *found, size_t found_len,
                                   literal_page *page);
@@ -320,6 +391,198 @@ int32_t literal_find_all_words_in(uint32_t kind, const uint32_t *prepared, size_
  * LITERAL_BAD_ARGUMENTS  kind is none, start is above end, or end above haystack_len */
 int32_t literal_count_words_in(uint32_t kind, const uint32_t *prepared, size_t prepared_len, const uint8_t *haystack,
                                size_t haystack_len, size_t start, size_t end, size_t *count);
+
+/* What follows is defined here, in C, and uses only the functions above. */
+
+/* What a status says, in a few words. */
+static inline const char *literal_status_text(int32_t status) {
+    static const char *const texts[] = {
+        "done", "nothing was found", "a pattern is empty, or there are too many patterns", "out of memory",
+        "the arguments contradict each other", "the patterns need too large a table", "the array is too short",
+        "the array is damaged, or of another version",
+    };
+    bool is_known = status >= 0 && status < (int32_t)(sizeof texts / sizeof *texts);
+    return is_known ? texts[status] : "no status of this library";
+}
+
+/* A search in memory of its own. The array may be passed to the functions above whose names end in _in. Any number of
+ * threads may search by it at the same time. */
+typedef struct literal_search {
+    uint32_t *prepared;
+    size_t prepared_len;
+} literal_search;
+
+/* Frees a search. With NULL it does nothing. */
+static inline void literal_free(literal_search *search) {
+    if (search != NULL)
+        free(search->prepared);
+    free(search);
+}
+
+/* For literal_new: at least as many entries as literal_prepare needs for the patterns. These are 1,000, one for each
+ * pattern, and a row for each of their bytes and one row more. A row has an entry for each distinct byte, and two more.
+ */
+static inline size_t literal_room(const uint8_t *patterns, size_t patterns_len, size_t ends_len) {
+    bool occurs[256] = {false};
+    size_t width = 2;
+    for (size_t i = 0; i < patterns_len; i++) {
+        width += !occurs[patterns[i]];
+        occurs[patterns[i]] = true;
+    }
+    return 1000 + ends_len + (patterns_len + 1) * width;
+}
+
+/* For the functions below: makes a search for every occurrence, or for leftmost matches of a kind. */
+static inline literal_search *literal_new_for(bool is_overlapping, uint32_t kind, bool ignore_case,
+                                              const uint8_t *patterns, size_t patterns_len, const size_t *ends,
+                                              size_t ends_len, int32_t *status) {
+    literal_search *search = (literal_search *)calloc(1, sizeof *search);
+    /* (a search for every occurrence needs this if no pattern is a suffix of another one) */
+    size_t room = literal_room(patterns, patterns_len, ends_len) + (is_overlapping ? 2 * ends_len : 0), needed = 0;
+    uint32_t *prepared = NULL, *shorter;
+    *status = LITERAL_TOO_SHORT;
+    /* (once more with the exact length, if memory for more is refused, or more is needed) */
+    for (int i = 0; search != NULL && i < 2 && *status == LITERAL_TOO_SHORT; i++) {
+        size_t len = room;
+        free(prepared);
+        prepared = (uint32_t *)malloc(len * sizeof *prepared);
+        if (prepared == NULL)
+            len = 0;
+        if (is_overlapping)
+            *status = literal_prepare_overlapping(ignore_case, patterns, patterns_len, ends, ends_len, prepared, len,
+                                                  &needed);
+        else
+            *status = literal_prepare(kind, ignore_case, patterns, patterns_len, ends, ends_len, prepared, len,
+                                      &needed);
+        room = needed;
+    }
+    if (search == NULL || *status == LITERAL_TOO_SHORT)
+        *status = LITERAL_OUT_OF_MEMORY;
+    if (*status != LITERAL_OK) {
+        free(prepared);
+        free(search);
+        return NULL;
+    }
+    shorter = (uint32_t *)realloc(prepared, needed * sizeof *prepared);
+    search->prepared = shorter == NULL ? prepared : shorter;
+    search->prepared_len = needed;
+    return search;
+}
+
+/* Makes a search for patterns. Returns NULL if literal_prepare refuses them, or memory is refused; *status says why. It
+ * is LITERAL_OK if there is a search, and never LITERAL_TOO_SHORT. */
+static inline literal_search *literal_new(uint32_t kind, bool ignore_case, const uint8_t *patterns, size_t patterns_len,
+                                          const size_t *ends, size_t ends_len, int32_t *status) {
+    return literal_new_for(false, kind, ignore_case, patterns, patterns_len, ends, ends_len, status);
+}
+
+/* The same for every occurrence: for literal_each_overlapping, and for the functions above that have overlapping in
+ * their names. */
+static inline literal_search *literal_new_overlapping(bool ignore_case, const uint8_t *patterns, size_t patterns_len,
+                                                      const size_t *ends, size_t ends_len, int32_t *status) {
+    return literal_new_for(true, LITERAL_LEFTMOST_FIRST, ignore_case, patterns, patterns_len, ends, ends_len, status);
+}
+
+/* Like literal_new, for words that end in a zero byte. */
+static inline literal_search *literal_new_of_words(uint32_t kind, bool ignore_case, const char *const *words,
+                                                   size_t words_len, int32_t *status) {
+    size_t *ends = (size_t *)malloc((words_len + 1) * sizeof *ends);
+    size_t len = ends == NULL ? 0 : literal_join(words, words_len, NULL, 0, ends);
+    uint8_t *patterns = (uint8_t *)malloc(len + 1);
+    literal_search *search = NULL;
+    *status = LITERAL_OUT_OF_MEMORY;
+    if (patterns != NULL && ends != NULL) {
+        literal_join(words, words_len, patterns, len, ends);
+        search = literal_new(kind, ignore_case, patterns, len, ends, words_len, status);
+    }
+    free(patterns);
+    free(ends);
+    return search;
+}
+
+/* Whether there is a match in the haystack from an offset on; found is then the leftmost one. There is none if the
+ * offset exceeds the length of the haystack. By a search of literal_new_overlapping it finds nothing. */
+static inline bool literal_next(const literal_search *search, const void *haystack, size_t haystack_len, size_t from,
+                                literal_match *found) {
+    return literal_find_in(search->prepared, search->prepared_len, (const uint8_t *)haystack, haystack_len, from,
+                           haystack_len, found) == LITERAL_OK;
+}
+
+/* The number of matches in the haystack: as many as literal_each passes on if its function always returns 0. By a
+ * search of literal_new_overlapping it finds nothing, and returns 0. */
+static inline size_t literal_count(const literal_search *search, const void *haystack, size_t haystack_len) {
+    size_t count = 0;
+    literal_count_in(search->prepared, search->prepared_len, (const uint8_t *)haystack, haystack_len, 0, haystack_len,
+                     &count);
+    return count;
+}
+
+/* For the functions below: passes matches to a function until it returns another number than 0. Returns its last
+ * number, or 0 without matches. */
+static inline int literal_pass(const literal_match *found, size_t found_len,
+                               int (*function)(void *context, literal_match found), void *context) {
+    int answer = 0;
+    for (size_t i = 0; i < found_len && answer == 0; i++)
+        answer = function(context, found[i]);
+    return answer;
+}
+
+/* Passes each match in the haystack to a function, with the context: first the leftmost match, and then the leftmost
+ * one after each match. If the function returns another number than 0, no more matches are passed, and the number is
+ * returned; else 0. For many matches this is faster than literal_next. By a search of literal_new_overlapping it finds
+ * nothing, and returns 0. */
+static inline int literal_each(const literal_search *search, const void *haystack, size_t haystack_len,
+                               int (*function)(void *context, literal_match found), void *context) {
+    literal_match found[128];
+    literal_page page = {0, 0, 0};
+    int answer = 0;
+    while (page.is_last == 0 && answer == 0) {
+        int32_t status = literal_find_all_in(search->prepared, search->prepared_len, (const uint8_t *)haystack,
+                                             haystack_len, page.next, haystack_len, found, 128, &page);
+        if (status != LITERAL_OK)
+            return 0;
+        answer = literal_pass(found, page.written, function, context);
+    }
+    return answer;
+}
+
+/* The same for every occurrence, by a search of literal_new_overlapping: in the order of their ends and, at one end, of
+ * their pattern numbers. By another search nothing is passed. The occurrences are found in pages of 128. If a page goes
+ * on by less than the length of the longest pattern, the next page has twice the room, in allocated memory, so that few
+ * bytes are read again. If this memory is refused, the room stays as it is: the same occurrences are passed, but more
+ * slowly. The memory is freed at the end, so the function must return: without longjmp, and without an exception. */
+static inline int literal_each_overlapping(const literal_search *search, const void *haystack, size_t haystack_len,
+                                           int (*function)(void *context, literal_match found), void *context) {
+    literal_match few[128], *many = NULL, *more;
+    literal_page page = {0, 0, 0};
+    literal_info info = {0, 0, 0, 0};
+    size_t room = 128, next = 0, pattern = 0;
+    int answer = 0;
+    while (page.is_last == 0 && answer == 0) {
+        literal_match *found = many == NULL ? few : many;
+        int32_t status = literal_find_overlapping_from_in(search->prepared, search->prepared_len,
+                                                          (const uint8_t *)haystack, haystack_len, 0, haystack_len,
+                                                          next, pattern, found, room, &page);
+        if (status != LITERAL_OK)
+            break;
+        answer = literal_pass(found, page.written, function, context);
+        if (page.is_last == 0 && answer == 0) {
+            bool is_short;
+            if (info.longest == 0) /* (asked only after a full page: this reads the length of each pattern) */
+                literal_prepared_info(search->prepared, search->prepared_len, &info);
+            is_short = page.next - next < info.longest;
+            next = page.next;
+            pattern = found[page.written - 1].pattern + 1;
+            more = is_short ? (literal_match *)realloc(many, 2 * room * sizeof *many) : NULL;
+            if (more != NULL) {
+                many = more;
+                room *= 2;
+            }
+        }
+    }
+    free(many);
+    return answer;
+}
 
 #ifdef __cplusplus
 }

@@ -7,7 +7,7 @@
 
 enum { KIND = LITERAL_LEFTMOST_FIRST, ROOM = 4096, WORDS = 1000, PLACES = 1 << 20, BLOCK = 1 << 16 };
 
-/* Writes a search for the words into the places, or ends the program. */
+/* Writes a search for the words into the array, or ends the program. */
 static size_t prepare(const char *const *words, size_t words_len, uint32_t *prepared) {
     static uint8_t patterns[ROOM];
     static size_t ends[WORDS];

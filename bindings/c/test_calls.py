@@ -7,7 +7,7 @@ import time
 import unittest
 
 import library
-from library import NUMBERS, Answer, Match, Page
+from library import NUMBERS, Answer, Info, Match, Page
 
 OK, NONE, NO_SEARCHER, BAD_ARGUMENTS = (NUMBERS[it] for it in ("OK", "NONE", "NO_SEARCHER", "BAD_ARGUMENTS"))
 TOO_SHORT, DAMAGED, OUT_OF_MEMORY = (NUMBERS[it] for it in ("TOO_SHORT", "DAMAGED", "OUT_OF_MEMORY"))
@@ -108,6 +108,15 @@ class Statuses(unittest.TestCase):
 
             self.by_array(array, text, start, end, valid, count)
             page, room = Page(*BEFORE), (Match * 2)(*[Match(*BEFORE)] * 2)
+            number = ctypes.c_size_t(7)
+            status = CALLS.literal_count_overlapping(True, *asked, text, 6, start, end, number)
+            self.assertEqual(status, self.wanted(patterns, ends, valid), case)
+            self.assertTrue(status == OK or number.value == 7, case)
+            next_at = chance.choice((start, start, 3, end))
+            status = CALLS.literal_find_overlapping_from_in(*for_all, text, 6, start, end, next_at, 0, room, 2, page)
+            self.assertEqual(status, OK if valid and start <= next_at <= end else BAD_ARGUMENTS)
+            self.assertTrue(status == OK or (*fields(page), *fields(room[0])) == (*BEFORE, *BEFORE), case)
+            page, room = Page(*BEFORE), (Match * 2)(*[Match(*BEFORE)] * 2)
             status = CALLS.literal_find_overlapping_in(*for_all, text, 6, start, end, room, 2, page)
             self.assertEqual(status, OK if valid else BAD_ARGUMENTS)
             self.assertEqual(page.written, b"abcabc"[start:end].count(b"abc") if valid else BEFORE[0])
@@ -140,14 +149,14 @@ class Pages(unittest.TestCase):
         for _ in range(4):
             self.assertEqual(call(page.next, found, room, page), OK)
             spans += [(it.start, it.end) for it in found[: page.written]]
-            if page.is_last or not room:
+            if page.is_last:
                 break
         return spans, page.is_last, page.next
 
     def test_pages(self):
         array = prepared(WORDS)
-        for room in (0, 1, 2, 3, 4):
-            wanted = (SPANS, 1, 50) if room else ([], 0, SPANS[0][0])
+        for room in (1, 2, 3, 4):
+            wanted = SPANS, 1, 50
             by_patterns = lambda at, *lent: CALLS.literal_find_all(0, False, *joined(WORDS), TEXT, len(TEXT), at, *lent)
             by_array = lambda at, *lent: CALLS.literal_find_all_in(*array, TEXT, len(TEXT), at, len(TEXT), *lent)
             self.assertEqual(self.spans(by_patterns, room), wanted)
@@ -183,16 +192,21 @@ class Pages(unittest.TestCase):
         self.assertEqual(self.all_found(array, text, 3000), [(1, at, at + 1) for at in range(len(text))])
 
     def test_no_pattern_spoils_the_time(self):
-        """One search after another looks up 1,000 bytes behind each match, some 10^9 in all."""
-        array = prepared([b"a" * 1000 + b"b", b"a"])
-        for size in (10_000, 1 << 20):
-            text, number, found, page = b"a" * size, ctypes.c_size_t(), (Match * size)(), Page()
-            began = time.monotonic()
-            self.assertEqual(CALLS.literal_count_in(*array, text, size, 0, size, number), OK)
-            self.assertEqual(CALLS.literal_find_all_in(*array, text, size, 0, size, found, size, page), OK)
-            self.assertLess(time.monotonic() - began, size / (1 << 20) + 0.1)
+        """One search after another looks up 1,000 bytes behind each match. With the short word alone the time is about
+        the same; the least of some is taken, since other work on the machine can take much of one."""
+        size, number, page = 1 << 20, ctypes.c_size_t(), Page()
+        text, found, least = b"a" * size, (Match * size)(), []
+        for words in ([b"a"], [b"a" * 1000 + b"b", b"a"]):
+            array, times = prepared(words), []
+            for _ in range(5):
+                began = time.process_time()
+                self.assertEqual(CALLS.literal_count_in(*array, text, size, 0, size, number), OK)
+                self.assertEqual(CALLS.literal_find_all_in(*array, text, size, 0, size, found, size, page), OK)
+                times.append(time.process_time() - began)
             self.assertEqual((number.value, page.written, page.is_last), (size, size, 1))
-            self.assertEqual(fields(found[size - 1]), (1, size - 1, size))
+            self.assertEqual(fields(found[size - 1]), (len(words) - 1, size - 1, size))
+            least.append(min(times))
+        self.assertLess(least[1], 6 * least[0])
 
     def test_overlapping(self):
         words, text = [b"a", b"aa", b"baa"], b"baabaaa"
@@ -201,12 +215,48 @@ class Pages(unittest.TestCase):
         for_all = prepared_for_all(words)
         by_patterns = lambda *lent: CALLS.literal_find_overlapping(False, *joined(words), text, 7, 0, 7, *lent)
         by_array = lambda *lent: CALLS.literal_find_overlapping_in(*for_all, text, 7, 0, 7, *lent)
-        for room, call in itertools.product(range(len(wanted) + 2), (by_patterns, by_array)):
+        for room, call in itertools.product(range(1, len(wanted) + 2), (by_patterns, by_array)):
             found, page = (Match * 12)(*[Match(*BEFORE)] * 12), Page()
             self.assertEqual(call(found, room, page), OK)
             self.assertEqual([fields(it) for it in found], [*wanted[:room], *[BEFORE] * 12][:12])
             self.assertEqual((page.written, page.is_last), (min(room, 10), room >= 10))
-            self.assertEqual(page.next, wanted[min(room, 10) - 1][2] if room else 0)
+            self.assertEqual(page.next, wanted[min(room, 10) - 1][2])
+
+    def test_every_occurrence_in_pages(self):
+        """Pages, each from the last match of the one before on, have the same occurrences as one long page."""
+        chance, page, number = random.Random(10), Page(), ctypes.c_size_t()
+        for _ in range(300):
+            words = [bytes(chance.choices(b"abA", k=chance.randint(1, 5))) for _ in range(chance.randint(0, 6))]
+            text = bytes(chance.choices(b"aabbA", k=chance.randint(0, 40)))
+            start, end = sorted((chance.randint(0, len(text)), chance.randint(0, len(text))))
+            for_all, room = prepared_for_all(words, chance.random() < 0.5), chance.choice((1, 2, 3, 300))
+            asked, found = (*for_all, text, len(text), start, end), (Match * 300)()
+            self.assertEqual(CALLS.literal_find_overlapping_in(*asked, found, 300, page), OK)
+            self.assertEqual(page.is_last, 1)
+            wanted, given, at, pattern = [fields(it) for it in found[: page.written]], [], start, 0
+            self.assertEqual((CALLS.literal_count_overlapping_in(*asked, number), number.value), (OK, len(wanted)))
+            page.is_last = 0
+            while not page.is_last:
+                status = CALLS.literal_find_overlapping_from_in(*asked, at, pattern, found, room, page)
+                self.assertEqual((status, page.written), (OK, min(room, len(wanted) - len(given))))
+                given += [fields(it) for it in found[: page.written]]
+                self.assertEqual(page.next, given[-1][2] if page.written else at)
+                at, pattern = (given[-1][2], given[-1][0] + 1) if given else (at, pattern)
+            self.assertEqual(given, wanted, (words, text, start, end, room))
+
+    def test_no_room(self):
+        """A page without room for a match is refused, and nothing is written."""
+        array, for_all, page, text = prepared(WORDS), prepared_for_all(WORDS), Page(*BEFORE), (TEXT, len(TEXT))
+        lent = Match(*BEFORE), 0, page
+        statuses = (
+            CALLS.literal_find_all(0, False, *joined(WORDS), *text, 0, *lent),
+            CALLS.literal_find_overlapping(False, *joined(WORDS), *text, 0, 50, *lent),
+            CALLS.literal_find_all_in(*array, *text, 0, 50, *lent),
+            CALLS.literal_find_overlapping_in(*for_all, *text, 0, 50, *lent),
+            CALLS.literal_find_overlapping_from_in(*for_all, *text, 0, 50, 0, 0, *lent),
+            CALLS.literal_find_all_words_in(0, *array, *text, 0, 50, *lent),
+        )
+        self.assertEqual((statuses, fields(lent[0]), fields(page)), ((BAD_ARGUMENTS,) * 6, BEFORE, BEFORE))
 
 
 class SoFar(unittest.TestCase):
@@ -324,6 +374,21 @@ class Arrays(unittest.TestCase):
             self.assertEqual((needed.value, any(room)), (length, False))
             self.assertEqual(CALLS.literal_check_prepared(array, given), DAMAGED)
 
+    def test_info(self):
+        """It is told of either array, and of as little of it as its lengths need."""
+        chance = random.Random(9)
+        for _ in range(300):
+            words = [bytes(chance.choices(b"abA", k=chance.randint(1, 9))) for _ in range(chance.randint(0, 5))]
+            lens = len(words), min(map(len, words), default=0), max(map(len, words), default=0)
+            for kind, (array, length) in enumerate((prepared(words, 0, True), prepared_for_all(words, True))):
+                info = Info(7, 8, 9, 10)
+                self.assertEqual(CALLS.literal_prepared_info(array, length - 1, info), DAMAGED)
+                self.assertEqual(fields(info), (7, 8, 9, 10))
+                self.assertEqual(CALLS.literal_prepared_info(array, length, info), OK)
+                self.assertEqual(fields(info), (*lens, kind), words)
+                array[0] ^= 1
+                self.assertEqual(CALLS.literal_prepared_info(array, length, info), DAMAGED)
+
     def test_each_damaged_word_is_noticed(self):
         for prepare, check in CHECKS:
             array, length = prepare(WORDS)
@@ -377,6 +442,8 @@ class Arrays(unittest.TestCase):
         for lent, given in (None, 0), (array, length), (for_all, 1), (for_all, longer - 1):
             asked = (lent, given, TEXT, len(TEXT))
             self.assertEqual(CALLS.literal_find_overlapping_in(*asked, 0, len(TEXT), found, 2, page), DAMAGED)
+            status = CALLS.literal_find_overlapping_from_in(*asked, 0, len(TEXT), 9, 0, found, 2, page)
+            self.assertEqual((status, CALLS.literal_count_overlapping_in(*asked, 0, 9, number)), (DAMAGED, DAMAGED))
 
     def assert_page(self, copy, start, room, page):
         """What a page of four matches by any array is like."""
@@ -466,12 +533,13 @@ class RefusedMemory(unittest.TestCase):
             CALLS.literal_find_each(*asked, *text, ends, 1, answers, 1),
             CALLS.literal_prepare(*asked, lent, 4, needed),
             CALLS.literal_prepare_overlapping(*asked[1:], lent, 4, needed),
+            CALLS.literal_count_overlapping(*asked[1:], *text, 0, 5, needed),
             CALLS.literal_can_search(*asked[2:]),
             CALLS.literal_check_prepared(*array),
             CALLS.literal_count_in(*array, *text, 0, len(TEXT), number),
         )
         process.unsetenv(b"REFUSED_REQUEST")
-        self.assertEqual(statuses, (*6 * [OUT_OF_MEMORY], *3 * [OK]))
+        self.assertEqual(statuses, (*7 * [OUT_OF_MEMORY], *3 * [OK]))
         self.assertEqual([fields(it) for it in (found, room[0], answers[0].found, page)], 4 * [BEFORE])
         self.assertEqual((answers[0].status, needed.value, tuple(lent[:3]), number.value), (7, 7, BEFORE, 3))
 

@@ -69,7 +69,8 @@ class Find(Programs):
         self.assertEqual(run("c++", "-std=c++17", *WARNINGS, "-xc++", *ALONE), (0, ""))
 
     def test_find_sanitized(self):
-        find, refused = self.compiled("find", *SANITIZED), (2, "find: no search for these words\n")
+        refused = (2, "find: a pattern is empty, or there are too many patterns\n")
+        find = self.compiled("find", *SANITIZED)
         self.assertEqual(run(find, *WORDS, text=TEXT), (0, FOUND))
         self.assertEqual(run(find, "zebra", text=TEXT), (0, ""))
         self.assertEqual(run(find, "a"), (0, ""))
@@ -77,6 +78,7 @@ class Find(Programs):
         self.assertEqual(run(find, "a", text=250 * "a"), (0, many))
         self.assertEqual(run(find, text=TEXT), (0, ""))
         self.assertEqual(run(find, "a", "", text=TEXT), refused)
+        self.assertEqual(run(find, "", text=TEXT), refused)
 
     def test_stream_sanitized(self):
         stream = self.compiled("stream", *SANITIZED)

@@ -211,8 +211,8 @@ class Version(unittest.TestCase):
         self.assertEqual(library.load().literal_version(), library.NUMBERS["VERSION_NUMBER"])
         for path, wanted in {
             SCAN: f'"litscan {version}\\n"', FIND: f'"litfind {version}\\n"', PAGE: f'"litscan {version}"',
-            TOP / "bindings/rust/Cargo.toml": f'\nversion = "{version}"\n',
-            TOP / "bindings/rust/Cargo.lock": f'\nversion = "{version}"\n',
+            TOP / "bindings/rust/Cargo.toml": f'+literal-search.{version}"\n',
+            TOP / "bindings/rust/Cargo.lock": f'+literal-search.{version}"\n',
         }.items():
             self.assertIn(wanted, read(path), path)
         self.assertEqual(re.search(r"^## (\S+)", read(TOP / "CHANGELOG.md"), re.M)[1], version)

@@ -67,7 +67,7 @@ def parts_of(automaton, folded, text):
 
 def searches(words, ignore_case):
     """For each search its name, what counts the matches of a text, and what finds, replaces and splits in a line."""
-    searcher = Search(words, Kind.LEFTMOST_LONGEST, ignore_case)
+    searcher = Search(words, Kind.LEFTMOST_LONGEST, "ascii" if ignore_case else False)
     yield "count", searcher.count, ()
     yield ("findall", lambda text: len(searcher.findall(text)),
            (searcher.find, lambda line: searcher.sub("-", line), searcher.split))

@@ -12,14 +12,15 @@ bytes, whatever the items are.
 """
 import copyreg
 import os
+import pickle
 import secrets
 import stat
 import struct
 import zlib
 from contextlib import suppress
 from itertools import accumulate, chain
-from typing import TYPE_CHECKING, Any, AnyStr, Callable, Iterable, Iterator, List, Mapping, Optional, Tuple, Type
-from typing import TypeVar, Union, cast, overload
+from typing import TYPE_CHECKING, Any, AnyStr, Callable, Iterable, Iterator, List, Literal, Mapping, Optional
+from typing import SupportsIndex, Tuple, Type, TypeVar, Union, cast, overload
 
 try:
     from . import _native, _stream
@@ -35,41 +36,53 @@ if TYPE_CHECKING:
 
     from ._native import _Offset, _Replacement
 
+    _Buffers = Iterable[Optional[ReadableBuffer]]
+
 __all__ = ["Kind", "Match", "Search", "__version__"]
 
 _Any = TypeVar("_Any", bound="Search[Any]")
+_Case = Union[bool, Literal["ascii"]]
+_Strs = Iterable[Optional[str]]
 
-# A file of a searcher: these words first, the kind, 1 if case is ignored and 2 more for whole words, whether the patterns
-# are str, their number, their length and the length of the prepared search; then the ends of the patterns, the patterns,
-# the prepared search; and at the end a checksum.
-_HEAD, _MAGIC, _SUM = struct.Struct("=8s6Q"), b"LITERAL1", struct.Struct("=L")
+# A file of a searcher: these words first, the kind, 1 if case is ignored, 2 more for whole words, and 4 more if only the
+# case of ASCII is, though the patterns are str; whether the patterns are str, their number, their length and the length
+# of the prepared search; then the ends of the patterns, the patterns, the prepared search; and at the end a checksum.
+_HEAD, _MAGIC, _SUM = struct.Struct("=8s6Q"), b"LITERAL2", struct.Struct("=L")
 
 
 class Search(_native.Prepared[AnyStr]):
     """Searches for any number of patterns, none of them empty. Without patterns it finds nothing. If the patterns are a
     mapping, it searches for the keys, and `value` of each match is the mapping's value for its pattern.
 
-    With `ignore_case` A to Z equal a to z, in a str too; all other characters are compared as they are.
+    With `ignore_case` the case of the characters of a str is ignored, by Unicode's simple case folding, if that has as
+    many bytes in UTF-8: not for the Kelvin sign, and some thirty more. If a pattern has a character beyond ASCII, each
+    call folds a copy of its text. In bytes, and with `ignore_case="ascii"` in a str too, A to Z equal a to z, and all
+    else is compared as it is.
 
     With `whole_words` it finds a pattern only with no word character right before it and none right after it: A to Z, a
     to z, 0 to 9 and the underscore, in a str too. The characters outside of text[start:end] count too. A pattern that is
     no whole word hides no other one. Such a searcher has no calls for overlapping or earliest occurrences, nor for
     streams: they raise ValueError.
 
+    A pickle by protocol 5 has the prepared search too, out of band if a `buffer_callback` is given. The same version of
+    the package then builds nothing. A pickle by an earlier protocol has the patterns alone.
+
     A searcher never changes, so threads may share one. While the library searches a long text, Python's other threads
     run, and signals are handled. Until a call returns, its text can be neither resized nor closed, and no other thread
     may write to it.
 
     Raises ValueError if a pattern is empty or has a lone surrogate, MemoryError, and OverflowError if the table of the
-    search would have 2^31 places or more. Raises TypeError for a set with Kind.LEFTMOST_FIRST: the order of the
+    search would have 2^31 entries or more. Raises TypeError for a set with Kind.LEFTMOST_FIRST: the order of the
     patterns decides what is found, and a set has no order. Each call raises TypeError for an argument that is no text
-    or of the other type, BufferError for a view with gaps or an array of objects, and ValueError for a str with a lone
-    surrogate.
+    or of the other type, and BufferError for a view with gaps or an array of objects. A lone surrogate in a text of type
+    str, as in some file names, is accepted; it matches no pattern.
 
     >>> Search([b"ab", b"abcd"], Kind.LEFTMOST_LONGEST).find(b"xabcd")
     Match(pattern=1, start=1, end=5)
     >>> Search(["secret"], ignore_case=True).is_match("My Secret.")
     True
+    >>> Search(["пример"], ignore_case=True).find("Это ПРИМЕР.")
+    Match(pattern=0, start=4, end=10)
     >>> Search(["new york", "york"], ignore_case=True, whole_words=True).findall("New Yorkers like York.")
     [Match(pattern=1, start=17, end=21)]
     >>> [it.span() for it in Search(["ab", "ba"]).finditer("äbabaab")]
@@ -103,7 +116,7 @@ class Search(_native.Prepared[AnyStr]):
         self,
         patterns: Iterable[AnyStr],
         kind: Kind = Kind.LEFTMOST_FIRST,
-        ignore_case: bool = False,
+        ignore_case: _Case = False,
         whole_words: bool = False,
     ) -> None: ...
 
@@ -112,7 +125,7 @@ class Search(_native.Prepared[AnyStr]):
         self: "Search[bytes]",
         patterns: "Iterable[ReadableBuffer]",
         kind: Kind = Kind.LEFTMOST_FIRST,
-        ignore_case: bool = False,
+        ignore_case: _Case = False,
         whole_words: bool = False,
     ) -> None: ...
 
@@ -120,29 +133,20 @@ class Search(_native.Prepared[AnyStr]):
         self,
         patterns: Iterable[Any],
         kind: Kind = Kind.LEFTMOST_FIRST,
-        ignore_case: bool = False,
+        ignore_case: _Case = False,
         whole_words: bool = False,
     ) -> None:
-        if isinstance(kind, bool):  # (else it would count as the number of a kind)
-            raise TypeError("the kind is a Kind, not a bool")
-        if isinstance(patterns, (set, frozenset)) and kind == Kind.LEFTMOST_FIRST:
-            raise TypeError("a set has no order, by which Kind.LEFTMOST_FIRST chooses: take a list, or LEFTMOST_LONGEST")
-        values: Optional[Tuple[Any, ...]] = None
-        if isinstance(patterns, Mapping):  # (asked once, since it may change meanwhile)
-            items = list(patterns.items())
-            patterns, values = [key for key, _ in items], tuple(value for _, value in items)
-        given: Tuple[Any, ...] = tuple(
-            it if isinstance(it, str) else _native.plain_bytes(it, "a pattern") for it in _many(patterns)
-        )
-        if len({isinstance(it, str) for it in given}) > 1:
-            raise TypeError("the patterns are partly str and partly bytes")
-        flags = bool(ignore_case), bool(whole_words)
-        self._prepare(given, tuple(map(_encoded, given)), int(Kind(kind)), *flags, None, values)
+        _begin(self, patterns, kind, ignore_case, whole_words, None)
 
     @property
     def kind(self) -> Kind:
         """Which pattern wins if several match at one position."""
         return Kind(self._kind)
+
+    @property
+    def ignore_case(self) -> _Case:
+        """Whether case is ignored; "ascii" if only that of A to Z is, though the patterns are str."""
+        return "ascii" if self._ascii_case else self._ignore_case
 
     @overload
     def finditer_earliest(
@@ -165,34 +169,54 @@ class Search(_native.Prepared[AnyStr]):
         return _one_after_another(overlapping(text, start, end))
 
     @overload
-    def find_each(self: "Search[str]", texts: Iterable[str]) -> List[Optional[Match[str]]]: ...
+    def find_each(self: "Search[str]", texts: _Strs, skip_missing: bool = False) -> List[Optional[Match[str]]]: ...
 
     @overload
-    def find_each(self: "Search[bytes]", texts: "Iterable[ReadableBuffer]") -> List[Optional[Match[bytes]]]: ...
+    def find_each(
+        self: "Search[bytes]", texts: "_Buffers", skip_missing: bool = False
+    ) -> List[Optional[Match[bytes]]]: ...
 
-    def find_each(self, texts: Iterable[Any]) -> List[Optional[Match[Any]]]:
-        """The leftmost match of each text, or None. Offsets are in that text.
+    def find_each(self, texts: Iterable[Any], skip_missing: bool = False) -> List[Optional[Match[Any]]]:
+        """The leftmost match of each text, or None. Offsets are in that text. The texts may be a column of pandas, or
+        an array of numpy. With `skip_missing`, None and NaN, but not pandas.NA, count as a text without a match.
 
         >>> Search(["ERROR", "WARN"]).find_each(["a WARN", "fine", "ERROR"])
         [Match(pattern=1, start=2, end=6), None, Match(pattern=0, start=0, end=5)]
         """
         find: Callable[[Any], Optional[Match[Any]]] = self.find
-        return [find(it) for it in _many(texts)]
+        return [find(it) for it in _cells(self, texts, skip_missing)]
 
     @overload
-    def findall_each(self: "Search[str]", texts: Iterable[str]) -> List[List[Match[str]]]: ...
+    def findall_each(self: "Search[str]", texts: _Strs, skip_missing: bool = False) -> List[List[Match[str]]]: ...
 
     @overload
-    def findall_each(self: "Search[bytes]", texts: "Iterable[ReadableBuffer]") -> List[List[Match[bytes]]]: ...
+    def findall_each(
+        self: "Search[bytes]", texts: "_Buffers", skip_missing: bool = False
+    ) -> List[List[Match[bytes]]]: ...
 
-    def findall_each(self, texts: Iterable[Any]) -> List[List[Match[Any]]]:
-        """The list of all matches of each text, by `findall`.
+    def findall_each(self, texts: Iterable[Any], skip_missing: bool = False) -> List[List[Match[Any]]]:
+        """The list of all matches of each text, by `findall`. Texts are as of `find_each`.
 
         >>> Search(["a"]).findall_each(["b", "ab"])
         [[], [Match(pattern=0, start=0, end=1)]]
         """
         findall: Callable[[Any], List[Match[Any]]] = self.findall
-        return [findall(it) for it in _many(texts)]
+        return [findall(it) for it in _cells(self, texts, skip_missing)]
+
+    @overload
+    def count_each(self: "Search[str]", texts: _Strs, skip_missing: bool = False) -> List[int]: ...
+
+    @overload
+    def count_each(self: "Search[bytes]", texts: "_Buffers", skip_missing: bool = False) -> List[int]: ...
+
+    def count_each(self, texts: Iterable[Any], skip_missing: bool = False) -> List[int]:
+        """The number of matches of each text, by `count`. Texts are as of `find_each`.
+
+        >>> Search(["a"]).count_each(["b", "banana", None], skip_missing=True)
+        [0, 3, 0]
+        """
+        count: Callable[[Any], int] = self.count
+        return [count(it) for it in _cells(self, texts, skip_missing)]
 
     def finditer_stream(self, file: "SupportsRead[Optional[AnyStr]]") -> Iterator[Match[AnyStr]]:
         """Yields all matches in a file, up to its end, as `finditer` does in the whole text, whatever pieces it comes
@@ -207,7 +231,17 @@ class Search(_native.Prepared[AnyStr]):
         >>> [it.span() for it in Search([b"secret"]).finditer_stream(BytesIO(b"a secret secret"))]
         [(2, 8), (9, 15)]
         """
-        return chain.from_iterable(_stream.searched(self, file, _stream.MATCHES))
+        return chain.from_iterable(_stream.searched(_stream.for_stream(self), file, _stream.MATCHES))
+
+    def finditer_overlapping_stream(self, file: "SupportsRead[Optional[AnyStr]]") -> Iterator[Match[AnyStr]]:
+        """Yields every occurrence in a file, up to its end, as `finditer_overlapping` does in the whole text. The file,
+        memory, offsets, matches and errors are as of `finditer_stream`. An occurrence is yielded once it is read.
+
+        >>> from io import StringIO
+        >>> [it.span() for it in Search(["aba", "b"]).finditer_overlapping_stream(StringIO("ababa"))]
+        [(1, 2), (0, 3), (3, 4), (2, 5)]
+        """
+        return _stream.occurrences(_stream.for_stream(self), file)
 
     def count_stream(self, file: "SupportsRead[Optional[AnyStr]]") -> int:
         """The number of matches that `finditer_stream` yields.
@@ -216,7 +250,7 @@ class Search(_native.Prepared[AnyStr]):
         >>> Search(["a"]).count_stream(StringIO("banana"))
         3
         """
-        counts: Iterator[int] = _stream.searched(self, file, _stream.COUNT)
+        counts: Iterator[int] = _stream.searched(_stream.for_stream(self), file, _stream.COUNT)
         return sum(counts)
 
     def sub_stream(
@@ -231,7 +265,7 @@ class Search(_native.Prepared[AnyStr]):
         >>> out.getvalue()
         'dog and cat'
         """
-        for part in _stream.searched(self, file, _stream.REPLACED, replacement):
+        for part in _stream.searched(_stream.for_stream(self), file, _stream.REPLACED, replacement):
             out.write(part)
 
     def save(self, path: "StrPath") -> None:
@@ -278,7 +312,7 @@ class Search(_native.Prepared[AnyStr]):
     def __hash__(self) -> int:
         return hash(self._key())
 
-    def _key(self) -> Tuple[Tuple[AnyStr, ...], Kind, bool, bool]:
+    def _key(self) -> Tuple[Tuple[AnyStr, ...], Kind, _Case, bool]:
         return self.patterns, self.kind, self.ignore_case, self.whole_words
 
     def _given(self) -> Any:
@@ -288,18 +322,60 @@ class Search(_native.Prepared[AnyStr]):
     def __repr__(self) -> str:
         name = type(self).__qualname__
         more = ", whole_words=True" if self.whole_words else ""
-        return f"{name}({self._given()!r}, Kind.{self.kind.name}, ignore_case={self.ignore_case}{more})"
+        return f"{name}({self._given()!r}, Kind.{self.kind.name}, ignore_case={self.ignore_case!r}{more})"
 
     def __reduce__(self) -> Tuple[Any, ...]:
         # (the __init__ of a subclass may take something else)
         state = getattr(self, "__getstate__", lambda: _state(self))  # (Python 3.10 has no such method)
         return _made, (type(self), self._given(), self.kind, self.ignore_case, self.whole_words), state()
 
+    def __reduce_ex__(self, protocol: SupportsIndex) -> Any:
+        reduced: Tuple[Any, ...] = self.__reduce__()
+        if protocol.__index__() < 5 or reduced[0] is not _made:
+            return reduced
+        return _made, (*reduced[1], pickle.PickleBuffer(self._prepared)), *reduced[2:]
 
-def _made(cls: Type[_Any], patterns: Iterable[Any], kind: Kind, ignore_case: bool, whole_words: bool) -> _Any:
-    """A searcher of a class, without a call of its own __init__: for pickle and copy."""
+    def __dask_tokenize__(self) -> Tuple[Any, ...]:
+        """What Dask names a searcher by: its class, its patterns and settings, and the attributes of a subclass."""
+        kind = type(self)
+        return kind.__module__, kind.__qualname__, *self._key(), self._values, *self.__reduce__()[2:]
+
+
+def _begin(
+    made: "Search[Any]", patterns: Iterable[Any], kind: Kind, ignore_case: _Case, whole_words: bool, kept: Optional[bytes]
+) -> None:
+    """Gives a searcher its patterns. `kept` is what another one prepared for the same patterns, or None."""
+    if isinstance(kind, bool):  # (else it would count as the number of a kind)
+        raise TypeError("the kind is a Kind, not a bool")
+    if isinstance(patterns, (set, frozenset)) and kind == Kind.LEFTMOST_FIRST:
+        raise TypeError("a set has no order, by which Kind.LEFTMOST_FIRST chooses: take a list, or LEFTMOST_LONGEST")
+    values: Optional[Tuple[Any, ...]] = None
+    if isinstance(patterns, Mapping):  # (asked once, since it may change meanwhile)
+        items = list(patterns.items())
+        patterns, values = [key for key, _ in items], tuple(value for _, value in items)
+    given: Tuple[Any, ...] = tuple(
+        it if isinstance(it, str) else _native.plain_bytes(it, "a pattern") for it in _many(patterns)
+    )
+    if len({isinstance(it, str) for it in given}) > 1:
+        raise TypeError("the patterns are partly str and partly bytes")
+    if isinstance(ignore_case, str) and ignore_case != "ascii":
+        raise ValueError(f'ignore_case is True, False or "ascii", and not {ignore_case!r}')
+    are_str = any(isinstance(it, str) for it in given)
+    flags = bool(ignore_case), are_str and ignore_case == "ascii", bool(whole_words)
+    made._prepare(given, tuple(map(_encoded, given)), int(Kind(kind)), *flags, kept, values)
+
+
+def _made(
+    cls: Type[_Any], patterns: Iterable[Any], kind: Kind, ignore_case: _Case, whole_words: bool, kept: Any = None
+) -> _Any:
+    """A searcher of a class, without a call of its own __init__: for pickle and copy. An array of another format or byte
+    order, or for another number of patterns, is made anew; pass the buffers of this pickle."""
     made = cls.__new__(cls)
-    Search.__init__(made, patterns, kind, ignore_case, whole_words)
+    if kept is not None:
+        with suppress(ValueError):
+            _begin(made, patterns, kind, ignore_case, whole_words, bytes(kept))
+            return made
+    _begin(made, patterns, kind, ignore_case, whole_words, None)
     return made
 
 
@@ -330,7 +406,8 @@ def _written(searcher: "Search[Any]") -> bytes:
     pieces = [_encoded(it) for it in searcher.patterns]
     ends, kept = list(accumulate(map(len, pieces))), searcher._prepared
     lens = len(pieces), sum(map(len, pieces)), len(kept)
-    flags = searcher.ignore_case | searcher.whole_words << 1
+    case = searcher.ignore_case
+    flags = bool(case) | searcher.whole_words << 1 | (case == "ascii") << 2
     head = _HEAD.pack(_MAGIC, searcher.kind, flags, _are_str(searcher), *lens)
     return b"".join([head, struct.pack(f"={len(ends)}Q", *ends), *pieces, kept])
 
@@ -351,9 +428,10 @@ def _replace(name: str, whole: bytes, mode: Optional[int]) -> None:
         raise
 
 
-def _read(whole: bytes) -> Optional[Tuple[Tuple[Any, ...], Tuple[bytes, ...], int, bool, bool, bytes, None]]:
+def _read(whole: bytes) -> Optional[Tuple[Tuple[Any, ...], Tuple[bytes, ...], int, bool, bool, bool, bytes, None]]:
     """The arguments of `_prepare` from a file of a searcher."""
-    if len(whole) < _HEAD.size + _SUM.size or _SUM.pack(zlib.crc32(whole[: -_SUM.size])) != whole[-_SUM.size :]:
+    summed = memoryview(whole)[: -_SUM.size]
+    if len(whole) < _HEAD.size + _SUM.size or _SUM.pack(zlib.crc32(summed)) != whole[-_SUM.size :]:
         return None
     magic, kind, flags, is_str, count, size, prepared = _HEAD.unpack_from(whole)
     behind_ends = _HEAD.size + 8 * count
@@ -365,8 +443,8 @@ def _read(whole: bytes) -> Optional[Tuple[Tuple[Any, ...], Tuple[bytes, ...], in
     buffer = whole[behind_ends : behind_ends + size]
     pieces = tuple(buffer[start:end] for start, end in zip((0, *ends), ends))
     patterns = tuple(it.decode() for it in pieces) if is_str else pieces
-    ignore_case, whole_words = bool(flags & 1), bool(flags & 2)
-    return patterns, pieces, kind, ignore_case, whole_words, whole[behind_ends + size : -_SUM.size], None
+    ignore_case, whole_words, ascii_case = (bool(flags & it) for it in (1, 2, 4))
+    return patterns, pieces, kind, ignore_case, ascii_case, whole_words, whole[behind_ends + size : -_SUM.size], None
 
 
 def _has_objects(view: memoryview) -> bool:
@@ -382,8 +460,19 @@ def _encoded(pattern: Union[str, bytes]) -> bytes:
         raise ValueError(f"the pattern {pattern!r} has a lone surrogate, which is no character") from None
 
 
+def _cells(searcher: "Search[Any]", texts: Iterable[Any], skip_missing: bool) -> Iterable[Any]:
+    """Texts, and an empty one in the place of None and NaN if these are skipped."""
+    if not skip_missing:
+        return _many(texts)
+    empty: Union[str, bytes] = "" if _are_str(searcher) else b""
+    return (empty if it is None or isinstance(it, float) and it != it else it for it in _many(texts))
+
+
 def _many(of: Iterable[Any]) -> Iterable[Any]:
-    """Patterns or texts, also an array of objects. A single text is refused: it would count as its characters."""
+    """Patterns or texts, also an array of objects, or of strings by numpy. A single text is refused: it would count as
+    its characters."""
+    if getattr(getattr(of, "dtype", None), "kind", None) in ("S", "U"):
+        return of
     try:
         if _has_objects(memoryview(cast(Any, of))):
             return of

@@ -115,13 +115,10 @@ static PyObject *match_span(PyObject *of, PyObject *unused) {
     return PyTuple_Pack(2, items_of(of)[START], items_of(of)[END]);
 }
 
-PyDoc_STRVAR(group_doc, "group($self, /)\n--\n\n"
-"The matched part, as str or bytes. From a mutable text it reads the bytes as they are now.");
-
-static PyObject *match_group(PyObject *of, PyObject *unused) {
+/* The matched part. */
+static PyObject *matched(PyObject *of) {
     PyObject **items = items_of(of), *text = items[WHOLE_TEXT], *group = NULL;
     Text held;
-    (void)unused;
     if (!text)
         return Py_NewRef(PyTuple_GET_ITEM(items[VALUES], 0));
     Py_ssize_t start = PyLong_AsSsize_t(items[START]), end = PyLong_AsSsize_t(items[END]);
@@ -137,9 +134,23 @@ static PyObject *match_group(PyObject *of, PyObject *unused) {
     return group;
 }
 
+PyDoc_STRVAR(group_doc, "group($self, number=0, /)\n--\n\n"
+"The matched part, as str or bytes. From a mutable text it reads the bytes as they are now. The only group is 0.");
+
+static PyObject *match_group(PyObject *of, PyObject *given) {
+    Py_ssize_t number = 0;
+    if (!PyArg_ParseTuple(given, "|n:group", &number))
+        return NULL;
+    if (number == 0)
+        return matched(of);
+    PyErr_SetString(PyExc_IndexError, "a match has no group but 0");
+    return NULL;
+}
+
 /* A copy has what was matched, and not the whole text. */
 static PyObject *match_reduce(PyObject *of, PyObject *unused) {
-    PyObject **items = items_of(of), *group = match_group(of, unused), *value = match_value(of, NULL), *reduced = NULL;
+    PyObject **items = items_of(of), *group = matched(of), *value = match_value(of, NULL), *reduced = NULL;
+    (void)unused;
     if (group && value)
         reduced = Py_BuildValue("O(OOOOO)", &match_type, items[PATTERN], items[START], items[END], group, value);
     Py_XDECREF(group);
@@ -149,7 +160,7 @@ static PyObject *match_reduce(PyObject *of, PyObject *unused) {
 
 static PyMethodDef match_methods[] = {
     {"span", match_span, METH_NOARGS, span_doc},
-    {"group", match_group, METH_NOARGS, group_doc},
+    {"group", match_group, METH_VARARGS, group_doc},
     {"__reduce__", match_reduce, METH_NOARGS, NULL},
     {"__class_getitem__", Py_GenericAlias, METH_O | METH_CLASS, "Match[str] and Match[bytes], for annotations."},
     {0},

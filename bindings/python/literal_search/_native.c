@@ -158,6 +158,121 @@ static PyObject *search_find_overlapping(PyObject *self, PyObject *const *given,
     return all_of((Prepared *)self, given, count, names, true);
 }
 
+/* The matched part alone. It is the pattern itself, without a copy, if that has the same bytes and type, and if pieces
+ * are not folded. */
+static PyObject *string_of(Walk *walk, const literal_match *found) {
+    const Pieces *pieces = &walk->search->pieces;
+    PyObject *pattern = PyTuple_GET_ITEM(walk->search->patterns, (Py_ssize_t)found->pattern);
+    size_t start = found->pattern > 0 ? pieces->ends[found->pattern - 1] : 0, len = found->end - found->start;
+    if (walk->search->takes != TAKES_FOLDED && pieces->ends[found->pattern] - start == len &&
+        (PyUnicode_CheckExact(pattern) || PyBytes_CheckExact(pattern)) &&
+        memcmp(pieces->bytes + start, walk->text.bytes + found->start, len) == 0)
+        return Py_NewRef(pattern);
+    Place first = walk->place;
+    offset_of(&walk->text, &first, found->start);
+    walk->place = first;
+    offset_of(&walk->text, &walk->place, found->end);
+    return part_of(&walk->text, first, walk->place);
+}
+
+PyDoc_STRVAR(findall_strings_doc, "findall_strings($self, /, text, start=0, end=None)\n--\n\n"
+"The list of the matched parts alone, as str or bytes: the `group` of each match that `findall` lists.");
+
+static PyObject *search_findall_strings(PyObject *self, PyObject *const *given, Py_ssize_t count, PyObject *names) {
+    PyObject *asked[3], *strings;
+    const literal_match *found;
+    Walk walk;
+    if (arguments(OF_SEARCH, 1, given, count, names, asked) || walk_begin(&walk, (Prepared *)self, false, asked))
+        return NULL;
+    strings = PyList_New(0);
+    while (strings && (found = walk_next(&walk))) {
+        PyObject *one = string_of(&walk, found);
+        if (!one || PyList_Append(strings, one))
+            Py_CLEAR(strings);
+        Py_XDECREF(one);
+    }
+    if (PyErr_Occurred())
+        Py_CLEAR(strings);
+    walk_end(&walk);
+    return strings;
+}
+
+/* Matches as columns: so many are written at once to the arrays. */
+enum { CHUNK = 256 };
+
+/* The type of the arrays, and the name of a method, which is looked up by the same object each time. */
+static PyObject *array_type, *frombytes_name;
+
+static int columns_ready(void) {
+    PyObject *module = PyImport_ImportModule("array");
+    array_type = module ? PyObject_GetAttrString(module, "array") : NULL;
+    frombytes_name = PyUnicode_InternFromString("frombytes");
+    Py_XDECREF(module);
+    return array_type && frombytes_name ? 0 : -1;
+}
+
+/* Three empty arrays. */
+static PyObject *empty_columns(void) {
+    PyObject *columns = PyTuple_New(SHOWN);
+    for (int i = 0; columns && i < SHOWN; i++) {
+        PyObject *column = PyObject_CallFunction(array_type, "s", "q");
+        if (column)
+            PyTuple_SET_ITEM(columns, i, column);
+        else
+            Py_CLEAR(columns);
+    }
+    return columns;
+}
+
+/* Adds so many rows to the columns. */
+static int add_rows(PyObject *columns, int64_t rows[SHOWN][CHUNK], size_t count) {
+    for (int i = 0; i < SHOWN; i++) {
+        PyObject *bytes = PyBytes_FromStringAndSize((const char *)rows[i], (Py_ssize_t)(count * sizeof(int64_t)));
+        PyObject *column = PyTuple_GET_ITEM(columns, i), *none = NULL;
+        if (bytes)
+            none = PyObject_CallMethodObjArgs(column, frombytes_name, bytes, NULL);
+        Py_XDECREF(bytes);
+        Py_XDECREF(none);
+        if (!none)
+            return -1;
+    }
+    return 0;
+}
+
+/* Adds all that a walk finds to the columns. */
+static int add_all(PyObject *columns, Walk *walk) {
+    int64_t rows[SHOWN][CHUNK];
+    size_t shown[SHOWN], count = 0;
+    const literal_match *found;
+    while ((found = walk_next(walk))) {
+        show(&walk->text, &walk->place, found, shown);
+        for (int i = 0; i < SHOWN; i++)
+            rows[i][count] = (int64_t)shown[i];
+        if (++count == CHUNK) {
+            if (add_rows(columns, rows, count))
+                return -1;
+            count = 0;
+        }
+    }
+    return PyErr_Occurred() ? -1 : add_rows(columns, rows, count);
+}
+
+PyDoc_STRVAR(find_columns_doc, "find_columns($self, /, text, start=0, end=None)\n--\n\n"
+"The matches that `findall` lists, as three arrays of 64-bit integers: the patterns, the starts and the ends. An array\n"
+"lends its buffer, so `numpy.asarray` copies nothing.");
+
+static PyObject *search_find_columns(PyObject *self, PyObject *const *given, Py_ssize_t count, PyObject *names) {
+    PyObject *asked[3], *columns;
+    Walk walk;
+    if (arguments(OF_SEARCH, 1, given, count, names, asked) || walk_begin(&walk, (Prepared *)self, false, asked))
+        return NULL;
+    columns = empty_columns();
+    if (columns && add_all(columns, &walk))
+        Py_CLEAR(columns);
+    walk_end(&walk);
+    return columns;
+}
+
 /* How many matches a walk finds. */
 static PyObject *counted(Walk *walk) {
     size_t matches = 0;
@@ -168,13 +283,22 @@ static PyObject *counted(Walk *walk) {
     return PyErr_Occurred() ? NULL : PyLong_FromSize_t(matches);
 }
 
+/* How many occurrences there are on a walk, also those that overlap. */
+static PyObject *counted_overlapping(Walk *walk) {
+    size_t occurrences = 0;
+    while (!walk->is_done)
+        if (count_occurrences(walk, &occurrences) || (!walk->is_done && PyErr_CheckSignals()))
+            return NULL;
+    return PyLong_FromSize_t(occurrences);
+}
+
 /* How many are found in a text. */
 static PyObject *count_of(Prepared *self, PyObject *const *given, Py_ssize_t count, PyObject *names, bool for_all) {
     PyObject *asked[3];
     Walk walk;
     if (arguments(OF_SEARCH, 1, given, count, names, asked) || walk_begin(&walk, self, for_all, asked))
         return NULL;
-    PyObject *answer = counted(&walk);
+    PyObject *answer = for_all ? counted_overlapping(&walk) : counted(&walk);
     walk_end(&walk);
     return answer;
 }
@@ -380,13 +504,16 @@ static PyTypeObject matches_type = {
 
 /* ---- How a searcher begins ---- */
 
-/* An array that was kept, if it is whole, and for as many patterns. */
-static PyObject *checked(PyObject *kept, size_t count) {
+/* An array that was kept, if it is whole, and for as many patterns, of which the longest has as many bytes. */
+static PyObject *checked(PyObject *kept, const Pieces *pieces) {
     size_t len;
     const uint32_t *words = words_of(kept, &len);
+    literal_info info = {0};
     bool is_cut = PyBytes_GET_SIZE(kept) % sizeof(uint32_t) != 0;
     int32_t status = is_cut ? LITERAL_DAMAGED : literal_check_prepared(words, len);
-    if (status != LITERAL_OK || words[3] != count) {
+    if (status == LITERAL_OK)
+        status = literal_prepared_info(words, len, &info);
+    if (status != LITERAL_OK || info.patterns != pieces->count || info.longest != pieces->longest) {
         refuse(LITERAL_DAMAGED);
         return NULL;
     }
@@ -398,16 +525,17 @@ static bool has_one_each(PyObject *of, size_t count) {
     return PyTuple_Check(of) && (size_t)PyTuple_GET_SIZE(of) == count;
 }
 
-PyDoc_STRVAR(prepare_doc, "_prepare($self, patterns, pieces, kind, ignore_case, whole_words, kept, values, /)\n--\n\n"
-"Sets the patterns, whose bytes are the pieces. `kept` is `_prepared` of a searcher for the same patterns, or None.\n"
+PyDoc_STRVAR(prepare_doc, "_prepare($self, patterns, pieces, kind, ignore_case, ascii_case, whole_words, kept, values, /)"
+"\n--\n\nSets the patterns, whose bytes are the pieces. `kept` is `_prepared` of a searcher for the same patterns, or None.\n"
 "`values` has a mapping's value for each pattern, or is None.");
 
 static PyObject *search_prepare(PyObject *of, PyObject *given) {
     Prepared *self = (Prepared *)of, new = {.takes = TAKES_EITHER};
     PyObject *pieces_of, *kept, *values;
-    int ignore_case, whole_words;
-    if (!PyArg_ParseTuple(given, "O!O!ippOO:_prepare", &PyTuple_Type, &new.patterns, &PyTuple_Type, &pieces_of, &new.kind,
-                          &ignore_case, &whole_words, &kept, &values) || join_pieces(&new.pieces, pieces_of))
+    int ignore_case, ascii_case, whole_words;
+    if (!PyArg_ParseTuple(given, "O!O!ipppOO:_prepare", &PyTuple_Type, &new.patterns, &PyTuple_Type, &pieces_of,
+                          &new.kind, &ignore_case, &ascii_case, &whole_words, &kept, &values) ||
+        join_pieces(&new.pieces, pieces_of))
         return NULL;
     if (!has_one_each(new.patterns, new.pieces.count) || (values != Py_None && !has_one_each(values, new.pieces.count))) {
         free_pieces(&new.pieces);
@@ -415,10 +543,16 @@ static PyObject *search_prepare(PyObject *of, PyObject *given) {
         return NULL;
     }
     new.ignore_case = (char)ignore_case;
+    new.ascii_case = (char)ascii_case;
     new.whole_words = (char)whole_words;
     if (PyTuple_GET_SIZE(new.patterns) > 0)
         new.takes = PyUnicode_Check(PyTuple_GET_ITEM(new.patterns, 0)) ? TAKES_STR : TAKES_BYTES;
-    new.prepared = kept == Py_None ? prepared_for(&new, &new.pieces, false) : checked(kept, new.pieces.count);
+    /* (with patterns of ASCII alone the text is not folded: no other character is folded to one of ASCII) */
+    if (new.takes == TAKES_STR && ignore_case && !ascii_case && !are_ascii(&new.pieces)) {
+        new.takes = TAKES_FOLDED;
+        literal_fold(new.pieces.bytes, new.pieces.len);
+    }
+    new.prepared = kept == Py_None ? prepared_for(&new, &new.pieces, false) : checked(kept, &new.pieces);
     if (new.prepared && self->takes != NOT_PREPARED) {
         Py_CLEAR(new.prepared);
         PyErr_SetString(PyExc_RuntimeError, "a searcher never changes: make another one");
@@ -434,9 +568,24 @@ static PyObject *search_prepare(PyObject *of, PyObject *given) {
     self->prepared = new.prepared;
     self->kind = new.kind;
     self->ignore_case = new.ignore_case;
+    self->ascii_case = new.ascii_case;
     self->whole_words = new.whole_words;
     self->takes = new.takes;
     Py_RETURN_NONE;
+}
+
+PyDoc_STRVAR(sizeof_doc, "__sizeof__($self, /)\n--\n\n"
+"How many bytes the searcher has, with what it prepared, and without the objects that were given to it.");
+
+static PyObject *search_sizeof(PyObject *of, PyObject *unused) {
+    const Prepared *self = (Prepared *)of;
+    size_t size = (size_t)Py_TYPE(of)->tp_basicsize + self->pieces.len + self->pieces.count * sizeof(size_t);
+    (void)unused;
+    for (int i = 0; i < 2; i++) {
+        PyObject *array = i ? self->for_all : self->prepared;
+        size += array ? (size_t)(PyBytes_Type.tp_basicsize + PyBytes_GET_SIZE(array)) : 0;
+    }
+    return PyLong_FromSize_t(size);
 }
 
 PyDoc_STRVAR(plain_bytes_doc, "plain_bytes(of, name, /)\n--\n\n"
@@ -475,6 +624,8 @@ static PyMethodDef search_methods[] = {
     CALL(is_match),
     CALL(find_earliest),
     CALL(findall),
+    CALL(findall_strings),
+    CALL(find_columns),
     CALL(find_overlapping),
     CALL(finditer),
     CALL(finditer_overlapping),
@@ -485,13 +636,15 @@ static PyMethodDef search_methods[] = {
     CALL(split),
     {"_prepare", search_prepare, METH_VARARGS, prepare_doc},
     {"_so_far", search_so_far, METH_VARARGS, so_far_doc},
+    {"__sizeof__", search_sizeof, METH_NOARGS, sizeof_doc},
     {"__class_getitem__", Py_GenericAlias, METH_O | METH_CLASS, "Search[str] and Search[bytes], for annotations."},
     {0},
 };
 
 static PyMemberDef search_members[] = {
     {"patterns", T_OBJECT_EX, offsetof(Prepared, patterns), READONLY, "The patterns, as str or as bytes."},
-    {"ignore_case", T_BOOL, offsetof(Prepared, ignore_case), READONLY, "Whether A to Z are the same as a to z."},
+    {"_ignore_case", T_BOOL, offsetof(Prepared, ignore_case), READONLY, NULL},
+    {"_ascii_case", T_BOOL, offsetof(Prepared, ascii_case), READONLY, NULL},
     {"whole_words", T_BOOL, offsetof(Prepared, whole_words), READONLY, "Whether it finds whole words alone."},
     {"_values", T_OBJECT, offsetof(Prepared, values), READONLY, NULL},
     {"_kind", T_INT, offsetof(Prepared, kind), READONLY, NULL},
@@ -541,7 +694,7 @@ PyMODINIT_FUNC PyInit__native(void) {
         return NULL;
     }
     PyObject *made = PyModule_Create(&module);
-    if (!made || match_ready() || PyType_Ready(&matches_type) || PyModule_AddType(made, &match_type) ||
+    if (!made || match_ready() || columns_ready() || PyType_Ready(&matches_type) || PyModule_AddType(made, &match_type) ||
         PyModule_AddType(made, &search_type) || PyModule_AddStringConstant(made, "__version__", LITERAL_VERSION)) {
         Py_XDECREF(made);
         return NULL;

@@ -1,3 +1,4 @@
+from array import array
 from typing import Any, AnyStr, Callable, Generic, Iterator, List, Optional, Sequence, SupportsIndex, Tuple, Union
 from typing import final, overload
 
@@ -6,6 +7,7 @@ from _typeshed import ReadableBuffer
 __version__: str
 
 _Offset = Optional[SupportsIndex]
+_Columns = Tuple[array[int], array[int], array[int]]
 _Replacement = Union[AnyStr, Sequence[AnyStr], Callable[[Match[AnyStr]], AnyStr]]
 
 def plain_bytes(of: ReadableBuffer, name: str, /) -> bytes: ...
@@ -30,15 +32,17 @@ class Match(Tuple[int, int, int], Generic[AnyStr]):
     @property
     def value(self) -> Any: ...
     def span(self) -> Tuple[int, int]: ...
-    def group(self) -> AnyStr: ...
+    def group(self, number: SupportsIndex = 0, /) -> AnyStr: ...
 
 class Prepared(Generic[AnyStr]):
     @property
     def patterns(self) -> Tuple[AnyStr, ...]: ...
     @property
-    def ignore_case(self) -> bool: ...
-    @property
     def whole_words(self) -> bool: ...
+    @property
+    def _ignore_case(self) -> bool: ...
+    @property
+    def _ascii_case(self) -> bool: ...
     @property
     def _kind(self) -> int: ...
     @property
@@ -71,6 +75,18 @@ class Prepared(Generic[AnyStr]):
     def findall(
         self: Prepared[bytes], text: ReadableBuffer, start: _Offset = 0, end: _Offset = None
     ) -> List[Match[bytes]]: ...
+    @overload
+    def findall_strings(self: Prepared[str], text: str, start: _Offset = 0, end: _Offset = None) -> List[str]: ...
+    @overload
+    def findall_strings(
+        self: Prepared[bytes], text: ReadableBuffer, start: _Offset = 0, end: _Offset = None
+    ) -> List[bytes]: ...
+    @overload
+    def find_columns(self: Prepared[str], text: str, start: _Offset = 0, end: _Offset = None) -> _Columns: ...
+    @overload
+    def find_columns(
+        self: Prepared[bytes], text: ReadableBuffer, start: _Offset = 0, end: _Offset = None
+    ) -> _Columns: ...
     @overload
     def find_overlapping(
         self: Prepared[str], text: str, start: _Offset = 0, end: _Offset = None
@@ -130,6 +146,7 @@ class Prepared(Generic[AnyStr]):
         pieces: Tuple[bytes, ...],
         kind: int,
         ignore_case: bool,
+        ascii_case: bool,
         whole_words: bool,
         kept: Optional[bytes],
         values: Optional[Tuple[Any, ...]],

@@ -8,10 +8,7 @@
 #include "_text.h"
 #include "literal_search.h"
 
-enum {
-    SHORT = 1 << 12,  /* bytes whose search takes less time than it takes to let another thread run */
-    SCRATCH = 1 << 24 /* numbers, at most, for a search whose length is not known yet */
-};
+enum { SCRATCH = 1 << 24 /* numbers, at most, for a search whose length is not known yet */ };
 
 /* The patterns as they cross to C: one buffer, and where each ends. */
 typedef struct {
@@ -28,7 +25,7 @@ typedef struct {
     PyObject *prepared; /* the array of the library, as bytes */
     PyObject *for_all;  /* the one for all that occurs, once it was asked for */
     int kind;
-    char ignore_case, whole_words;
+    char ignore_case, whole_words, ascii_case; /* (only the case of A to Z, in a str too) */
     bool leads_on; /* whether a pattern or a value may lead back to what holds it */
     Takes takes;
 } Prepared;
@@ -52,16 +49,6 @@ static int refuse(int32_t status) {
         PyErr_Format(PyExc_SystemError, "the library answers the status %d", (int)status);
     }
     return -1;
-}
-
-/* Lets other threads run during a search of so many bytes, if it is long. */
-static PyThreadState *let_others_run(size_t len) {
-    return len > SHORT ? PyEval_SaveThread() : NULL;
-}
-
-static void come_back(PyThreadState *state) {
-    if (state)
-        PyEval_RestoreThread(state);
 }
 
 static void free_pieces(Pieces *pieces) {
@@ -90,6 +77,14 @@ static int join_pieces(Pieces *pieces, PyObject *of) {
     return 0;
 }
 
+/* Whether all pieces are ASCII. */
+static bool are_ascii(const Pieces *pieces) {
+    uint8_t all = 0;
+    for (size_t i = 0; i < pieces->len; i++)
+        all |= pieces->bytes[i];
+    return all < 0x80;
+}
+
 static int32_t prepare(const Prepared *self, const Pieces *pieces, bool for_all, void *words, size_t len,
                        size_t *needed) {
     int32_t status;
@@ -105,16 +100,10 @@ static int32_t prepare(const Prepared *self, const Pieces *pieces, bool for_all,
     return status;
 }
 
-/* How many numbers the array of a search for some pieces will have, more or less: one row for each of their bytes, with
- * a number for each different one; and for each piece its length, and in a search for all that occurs two more. */
+/* The likely number of entries in the array of a search for some pieces. A search for every occurrence has two more for
+ * each piece. */
 static size_t likely_len(const Pieces *pieces) {
-    bool seen[256] = {false};
-    size_t different = 0;
-    for (size_t i = 0; i < pieces->len; i++) {
-        different += !seen[pieces->bytes[i]];
-        seen[pieces->bytes[i]] = true;
-    }
-    size_t len = (pieces->len + 1) * (different + 2) + 3 * pieces->count + 512;
+    size_t len = literal_room(pieces->bytes, pieces->len, pieces->count) + 2 * pieces->count;
     return len < SCRATCH ? len : SCRATCH;
 }
 

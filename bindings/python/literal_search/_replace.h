@@ -43,17 +43,12 @@ static int out_add(Out *out, const void *bytes, size_t len) {
     return 0;
 }
 
-/* Adds a str, as UTF-8. A lone surrogate is taken along: a replacement may have one. */
+/* Adds a str, as UTF-8. */
 static int out_add_str(Out *out, PyObject *str) {
     Py_ssize_t len;
-    const char *bytes = PyUnicode_AsUTF8AndSize(str, &len);
-    if (bytes)
-        return out_add(out, bytes, (size_t)len);
-    if (!PyErr_ExceptionMatches(PyExc_UnicodeEncodeError))
-        return -1;
-    PyErr_Clear();
-    PyObject *encoded = PyUnicode_AsEncodedString(str, "utf-8", "surrogatepass");
-    int status = encoded ? out_add(out, PyBytes_AS_STRING(encoded), (size_t)PyBytes_GET_SIZE(encoded)) : -1;
+    PyObject *encoded = NULL;
+    const char *bytes = utf8_of(str, &len, &encoded);
+    int status = bytes ? out_add(out, bytes, (size_t)len) : -1;
     Py_XDECREF(encoded);
     return status;
 }
@@ -124,7 +119,7 @@ static PyObject *replacement_of(Walk *walk, PyObject *by, const literal_match *f
 
 /* Writes the text from a byte up to a match, and what replaces it. */
 static int replace_one(Out *out, Walk *walk, PyObject *by, size_t at, const literal_match *found) {
-    if (out_add(out, walk->text.bytes + at, found->start - at))
+    if (out_add(out, walk->text.shown + at, found->start - at))
         return -1;
     PyObject *one = replacement_of(walk, by, found);
     if (!one)
@@ -162,7 +157,7 @@ static PyObject *replaced(Walk *walk, PyObject *by, size_t most, size_t *done) {
     if (!PyErr_Occurred()) {
         if (*done == 0)
             answer = whole_of(&walk->text);
-        else if (!out_add(&out, walk->text.bytes + at, walk->text.len - at))
+        else if (!out_add(&out, walk->text.shown + at, walk->text.len - at))
             answer = written(&out, walk->text.is_str);
     }
     out_end(&out);
@@ -180,7 +175,7 @@ static PyObject *part_replaced(Walk *walk, PyObject *by) {
         at = found->end;
     if (!PyErr_Occurred()) {
         searched_to(walk);
-        if (!out_add(&out, walk->text.bytes + at, walk->place.byte - at))
+        if (!out_add(&out, walk->text.shown + at, walk->place.byte - at))
             answer = written(&out, walk->text.is_str);
     }
     out_end(&out);

@@ -2,6 +2,8 @@
 from errno import EAGAIN
 from typing import TYPE_CHECKING, Any, Iterator, List, Optional, Tuple
 
+from ._types import Match
+
 if TYPE_CHECKING:
     from ._native import Prepared
 
@@ -22,12 +24,17 @@ def read(file: Any) -> Tuple[Any, Optional[Exception]]:
         return None, why
 
 
-def searched(searcher: "Prepared[Any]", file: Any, wanted: int, by: Any = None) -> Iterator[Any]:
-    """The wanted answer for each part of a text, up to its end. The bytes of a part are kept where a match may begin
-    that ends after it. Then at least as much is read as was kept, so nothing is searched more than twice. If the file
-    fails, the text before is searched first."""
+def for_stream(searcher: "Prepared[Any]") -> "Prepared[Any]":
+    """The searcher, unless it is for whole words: such a search needs the characters around a part."""
     if searcher.whole_words:
         raise ValueError("a searcher for whole words searches no stream")
+    return searcher
+
+
+def searched(searcher: "Prepared[Any]", file: Any, wanted: int, by: Any = None) -> Iterator[Any]:
+    """The wanted answer for each part of a text, up to its end. The bytes of a part are kept where a match may begin
+    that ends after it. Then at least as much is read as was kept, so all parts together have at most twice the length
+    of the text and of the longest pattern. If the file fails, the text before is searched first."""
     pieces: List[Any] = []
     kept = length = before = 0
     more = True
@@ -52,3 +59,36 @@ def searched(searcher: "Prepared[Any]", file: Any, wanted: int, by: Any = None) 
         before += start
         kept = length = len(held) - start
         pieces = [held[start:]] if kept else []
+
+
+def occurrences(searcher: "Prepared[Any]", file: Any) -> Iterator[Match[Any]]:
+    """Every occurrence in a text, up to its end. The last bytes of a part are kept, one less than the longest pattern
+    has. Then more than that is read, so all parts together have at most twice the length of the text and of the longest
+    pattern. If the file fails, the text before is searched first."""
+    lead = max(map(len, searcher.patterns), default=1) - 1
+    kept: List[Any] = []
+    before = 0
+    more = True
+    failure = None
+    while more and failure is None:
+        pieces, old = kept, sum(map(len, kept))
+        length = 0
+        while more and failure is None and length <= old:
+            piece, failure = read(file)
+            more = failure is not None or len(piece) > 0
+            if failure is None and more:
+                pieces = [*pieces, piece]
+                length += len(piece)
+        if length > 0:
+            held = pieces[0][:0].join(pieces)
+            for match in searcher.finditer_overlapping(held):
+                if match.end > old:
+                    yield Match(match.pattern, before + match.start, before + match.end, match.group(), match.value)
+            start = max(0, len(held) - lead)
+            kept = [held[start:]]
+            before += start
+    if failure is not None:
+        try:
+            raise failure
+        finally:
+            del failure  # (which has this frame)

@@ -9,16 +9,22 @@
 #include <stdint.h>
 #include <string.h>
 
+#include "literal_search.h"
+
 #define ONES UINT64_C(0x0101010101010101)
 
-/* Of which type the texts of a searcher are, as its patterns are. */
-typedef enum { NOT_PREPARED, TAKES_EITHER, TAKES_BYTES, TAKES_STR } Takes;
+enum { SHORT = 1 << 12 /* bytes whose search takes less time than it takes to let another thread run */ };
+
+/* Of which type the texts of a searcher are, as its patterns are. TAKES_FOLDED: they are str, and are folded. */
+typedef enum { NOT_PREPARED, TAKES_EITHER, TAKES_BYTES, TAKES_STR, TAKES_FOLDED } Takes;
 
 /* A text that is held, and its bytes. */
 typedef struct {
     PyObject *of;     /* the text, or NULL once it is given back */
     Py_buffer buffer; /* its buffer, unless it is a str */
-    const uint8_t *bytes;
+    PyObject *encoded; /* the bytes of a str with a lone surrogate, or NULL */
+    PyObject *folded;  /* the folded bytes of a str, or NULL */
+    const uint8_t *bytes, *shown; /* those that are searched, and those of the text itself: two arrays if it is folded */
     size_t len;
     bool is_str;
     bool is_wide; /* whether it is a str in which a character has more than one byte */
@@ -56,30 +62,66 @@ static int hold_buffer(Text *text, PyObject *of) {
                         "a text lends plain bytes, one after another: no view with gaps, and no array of objects");
         return -1;
     }
-    text->bytes = text->buffer.buf;
+    text->bytes = text->shown = text->buffer.buf;
     text->len = (size_t)text->buffer.len;
     text->of = Py_NewRef(of);
     return 0;
 }
 
-static int hold_str(Text *text, PyObject *of) {
+/* The bytes of a str as UTF-8, and those of each lone surrogate as of another character: names of files may have some.
+ * Python keeps the bytes with the str, or else they are new, and `encoded` has them. */
+static const char *utf8_of(PyObject *str, Py_ssize_t *len, PyObject **encoded) {
+    const char *bytes = PyUnicode_AsUTF8AndSize(str, len);
+    if (bytes || !PyErr_ExceptionMatches(PyExc_UnicodeEncodeError))
+        return bytes;
+    PyErr_Clear();
+    *encoded = PyUnicode_AsEncodedString(str, "utf-8", "surrogatepass");
+    if (!*encoded)
+        return NULL;
+    *len = PyBytes_GET_SIZE(*encoded);
+    return PyBytes_AS_STRING(*encoded);
+}
+
+/* Lets other threads run during a search of so many bytes, if it is long. */
+static PyThreadState *let_others_run(size_t len) {
+    return len > SHORT ? PyEval_SaveThread() : NULL;
+}
+
+static void come_back(PyThreadState *state) {
+    if (state)
+        PyEval_RestoreThread(state);
+}
+
+/* Searches a folded copy of the text. */
+static int fold_copy(Text *text) {
+    text->folded = PyBytes_FromStringAndSize((const char *)text->shown, (Py_ssize_t)text->len);
+    if (!text->folded)
+        return -1;
+    uint8_t *bytes = (uint8_t *)PyBytes_AS_STRING(text->folded);
+    PyThreadState *state = let_others_run(text->len);
+    literal_fold(bytes, text->len);
+    come_back(state);
+    text->bytes = bytes;
+    return 0;
+}
+
+static int hold_str(Text *text, PyObject *of, bool folds) {
     Py_ssize_t len;
     if (PyUnicode_IS_COMPACT_ASCII(of)) {
-        text->bytes = PyUnicode_1BYTE_DATA(of);
+        text->bytes = text->shown = PyUnicode_1BYTE_DATA(of);
         text->len = (size_t)PyUnicode_GET_LENGTH(of);
         text->of = Py_NewRef(of);
         return 0;
     }
-    text->bytes = (const uint8_t *)PyUnicode_AsUTF8AndSize(of, &len);
-    if (!text->bytes) {
-        if (PyErr_ExceptionMatches(PyExc_UnicodeEncodeError)) {
-            PyErr_Clear();
-            PyErr_SetString(PyExc_ValueError, "the text has a lone surrogate, which is no character");
-        }
+    text->bytes = text->shown = (const uint8_t *)utf8_of(of, &len, &text->encoded);
+    if (!text->bytes)
         return -1;
-    }
     text->len = (size_t)len;
     text->is_wide = len != PyUnicode_GET_LENGTH(of);
+    if (folds && fold_copy(text)) {
+        Py_CLEAR(text->encoded);
+        return -1;
+    }
     text->of = Py_NewRef(of);
     return 0;
 }
@@ -87,24 +129,26 @@ static int hold_str(Text *text, PyObject *of) {
 /* Holds a text, of the type that is taken. */
 static int hold(Text *text, Takes takes, PyObject *of) {
     bool is_str = PyUnicode_Check(of);
-    text->of = text->buffer.obj = NULL;
+    text->of = text->buffer.obj = text->encoded = text->folded = NULL;
     text->is_str = is_str;
     text->is_wide = false;
     if (takes == NOT_PREPARED)
         PyErr_SetString(PyExc_RuntimeError, "this searcher has no patterns yet: its __init__ was not called");
     else if (is_str && takes == TAKES_BYTES)
         PyErr_SetString(PyExc_TypeError, "the patterns are bytes, and the text is str: encode it, as by text.encode()");
-    else if (!is_str && takes == TAKES_STR && PyObject_CheckBuffer(of))
+    else if (!is_str && (takes == TAKES_STR || takes == TAKES_FOLDED) && PyObject_CheckBuffer(of))
         PyErr_Format(PyExc_TypeError, "the patterns are str, and the text is %.200s: decode it, as by str(text, 'utf-8')",
                      Py_TYPE(of)->tp_name);
     else
-        return is_str ? hold_str(text, of) : hold_buffer(text, of);
+        return is_str ? hold_str(text, of, takes == TAKES_FOLDED) : hold_buffer(text, of);
     return -1;
 }
 
 static void give_back(Text *text) {
     if (text->buffer.obj)
         PyBuffer_Release(&text->buffer);
+    Py_CLEAR(text->encoded);
+    Py_CLEAR(text->folded);
     Py_CLEAR(text->of);
 }
 

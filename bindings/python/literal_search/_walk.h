@@ -318,6 +318,26 @@ static int page_of_occurrences(Walk *walk) {
     return 0;
 }
 
+/* Counts what occurs in the next piece and ends behind `at`: all, without what ends at `at` or before. */
+static int count_occurrences(Walk *walk, size_t *count) {
+    size_t len = piece_len(walk->search), to = walk->end - walk->at > len ? walk->at + len : walk->end;
+    size_t words_len, all, before;
+    const uint32_t *words = words_of(walk->search->for_all, &words_len);
+    const Text *text = &walk->text;
+    PyThreadState *state = let_others_run(to - walk->at + walk->search->pieces.longest);
+    size_t from = walk->at - reach_back(walk);
+    int32_t status = literal_count_overlapping_in(words, words_len, text->bytes, text->len, from, to, &all);
+    if (status == LITERAL_OK)
+        status = literal_count_overlapping_in(words, words_len, text->bytes, text->len, from, walk->at, &before);
+    come_back(state);
+    if (status != LITERAL_OK)
+        return refuse(status);
+    *count += all - before;
+    walk->at = to;
+    walk->is_done = to == walk->end;
+    return 0;
+}
+
 /* Searches on, until there are matches or the walk is done. */
 static int walk_on(Walk *walk) {
     while (walk->given == walk->written && !walk->is_done) {
@@ -340,17 +360,22 @@ static const literal_match *walk_next(Walk *walk) {
 
 /* ---- What is answered ---- */
 
-/* The Match of what was found. The place moves on to its end. */
-static PyObject *match_at(const Prepared *search, const Text *text, Place *place, const literal_match *found) {
-    size_t shown[SHOWN] = {found->pattern};
+/* The items of a match of what was found. The place moves on to its end. */
+static void show(const Text *text, Place *place, const literal_match *found, size_t shown[SHOWN]) {
     bool is_ahead = found->start >= place->byte;
-    if (is_ahead)
-        shown[START] = offset_of(text, place, found->start);
+    shown[PATTERN] = found->pattern;
+    shown[START] = is_ahead ? offset_of(text, place, found->start) : 0;
     shown[END] = offset_of(text, place, found->end);
     if (!is_ahead) {
         size_t len = found->end - found->start;
         shown[START] = shown[END] - (text->is_wide ? characters(text->bytes + found->start, len) : len);
     }
+}
+
+/* The Match of what was found. The place moves on to its end. */
+static PyObject *match_at(const Prepared *search, const Text *text, Place *place, const literal_match *found) {
+    size_t shown[SHOWN];
+    show(text, place, found, shown);
     return new_match(shown, text->of, search->values ? search->values : search->patterns,
                      search->leads_on || leads_on(text));
 }

@@ -11,7 +11,8 @@ sys.path.append(str(TOP / "bindings/c"))
 
 import library
 
-EXPORTS = re.sub(r"//.*", "", (TOP / "crates/literal_c/src/lib.rt").read_text("utf-8"))
+SOURCES = sorted((TOP / "crates/literal_c/src").glob("*.rt"))
+EXPORTS = re.sub(r"//.*", "", "".join(it.read_text("utf-8") for it in SOURCES))
 
 # What stands in C for a type of Rust.
 IN_C = {"u32": "uint32_t", "i32": "int32_t", "usize": "size_t", "bool": "bool", "u8": "uint8_t"}

@@ -4,6 +4,7 @@ import ctypes
 import functools
 import gc
 import mmap
+import operator
 import re
 import signal
 import tempfile
@@ -16,13 +17,15 @@ from collections import deque
 from concurrent.futures import ThreadPoolExecutor
 from contextlib import contextmanager, suppress
 from io import BytesIO, StringIO
-from itertools import islice
+from itertools import chain, islice
 
-from literal_search import Match, Search
+from literal_search import Search
 
 TEXT = b"Nobody likes maple in their apple flavored Snapple."
 WORDS = [b"apple", b"maple", b"Snapple"]
-LONG, WAIT, LIMIT = 1 << 32, 0.2, 0.15
+RAISED = functools.partial(ctypes.CDLL(None)["raise"], signal.SIGINT)  # (Python sees the signal later)
+CALLED, RELEASED, JOINED = map(operator.methodcaller, ("__call__", "release", "join"))
+TRIES, LONG = 40, 1 << 34
 
 
 class Text(str):
@@ -36,12 +39,14 @@ class Block(bytearray):
 def calls_of(searcher):
     """Each call that takes one text."""
     yield from (searcher.find, searcher.is_match, searcher.findall, searcher.count, searcher.split)
+    yield from (searcher.findall_strings, searcher.find_columns)
     yield from (searcher.find_overlapping, searcher.count_overlapping, searcher.find_earliest)
     yield lambda text: list(searcher.finditer(text))
     yield lambda text: list(searcher.finditer_overlapping(text))
     yield lambda text: searcher.sub(b"-", text)
     yield lambda text: searcher.find_each([text])
     yield lambda text: searcher.findall_each([text])
+    yield lambda text: searcher.count_each([text])
 
 
 def streams_of(searcher):
@@ -50,6 +55,23 @@ def streams_of(searcher):
     yield lambda text: list(searcher.finditer_stream(file_of(text)))
     yield lambda text: searcher.count_stream(file_of(text))
     yield lambda text: searcher.sub_stream(file_of(text), BytesIO(), lambda it: it.group())
+
+
+def asked_of(searcher):
+    """For each call that can take long, a function that makes it for lists of arguments, and iterates over the answers.
+    It is C alone: so no signal is handled between the end of a call and its answer."""
+    calls = [searcher.find, searcher.is_match, searcher.findall, searcher.findall_strings, searcher.find_columns]
+    calls += [searcher.count, searcher.split, searcher.find_overlapping, searcher.count_overlapping]
+    calls += [searcher.find_earliest, functools.partial(searcher.sub, b"")]
+    yield from (functools.partial(map, call) for call in calls)
+    yield lambda *given: map(next, map(searcher.finditer, *given), [None])
+    yield lambda *given: map(next, map(searcher.finditer_overlapping, *given), [None])
+
+
+def held_lock():
+    lock = threading.Lock()
+    lock.acquire()
+    return lock
 
 
 @contextmanager
@@ -221,6 +243,13 @@ class Iterators(unittest.TestCase):
             gc.collect()
             self.assertEqual([it() for it in gone], [None] * len(gone))
 
+    def test_asked_while_it_is_at_work(self):
+        """By the handler of a signal that it sees."""
+        matches = Search([b"\0"]).finditer(bytes(100000))
+        self.addCleanup(signal.signal, signal.SIGINT, signal.signal(signal.SIGINT, lambda *_: next(matches)))
+        with self.assertRaisesRegex(ValueError, "another thread is at work"):
+            list(map(CALLED, [RAISED, functools.partial(next, matches)]))
+
     def test_side_by_side(self):
         """Threads may share an iterator: each match is given once."""
         matches, found = Search([b"\0"]).finditer(bytes(300000)), []
@@ -250,35 +279,19 @@ class Threads(unittest.TestCase):
             counts = list(pool.map(lambda it: len(searcher.findall(it)), texts))
         self.assertEqual(counts, [3 * (i + 1) for i in range(40)])
 
-    def assert_others_run(self, call):
-        """Another thread runs in the middle of a call, and not only before it and after."""
-        ticks, done = [], threading.Event()
-
-        def tick():
-            while not done.wait(0.001):
-                ticks.append(time.perf_counter())
-
-        other = threading.Thread(target=tick)
-        other.start()
-        try:
-            started = time.perf_counter()
-            call()
-            quarter = (time.perf_counter() - started) / 4
-        finally:
-            done.set()
-            other.join()
-        self.assertGreater(sum(started + quarter < it < started + 3 * quarter for it in ticks), 2)
-
-    def test_others_run_during_a_search(self):
-        searcher = Search([b"needle"])
-        with zeros(LONG >> 3) as text:
-            for call in (searcher.find, searcher.findall, searcher.count, searcher.find_overlapping,
-                         lambda it: next(searcher.finditer(it), None)):
-                self.assert_others_run(lambda: call(text))
-
-
     def test_others_run_while_a_search_is_prepared(self):
-        self.assert_others_run(lambda: Search([b"ab" * (1 << 21)]))
+        """In one of many tries, since the machine may be busy. No thread can take over between the calls of `map`."""
+        word = b"ab" * (1 << 18)
+        for _ in range(TRIES):
+            lock, times = held_lock(), []
+            other = threading.Thread(target=lambda: (lock.acquire(), times.append(time.perf_counter())))
+            other.start()
+            prepared = functools.partial(Search.__new__(Search)._prepare, (word,), (word,), *[0] * 4, None, None)
+            *_, ended = chain(map(RELEASED, [lock]), map(CALLED, [prepared, time.perf_counter]))
+            other.join()
+            if times[0] < ended:
+                return
+        self.fail("no other thread runs")
 
 
 class Interrupted(Exception):
@@ -286,9 +299,9 @@ class Interrupted(Exception):
 
 
 class Raising:
-    """An offset of 0, for which a signal is raised that Python sees later: no code of Python runs when it is asked for."""
+    """An offset of 0. No code of Python runs when it is asked for, and it raises a signal."""
 
-    __index__ = staticmethod(functools.partial(ctypes.CDLL(None)["raise"], signal.SIGINT))
+    __index__ = staticmethod(RAISED)
 
 
 class Signals(unittest.TestCase):
@@ -298,58 +311,41 @@ class Signals(unittest.TestCase):
 
         self.addCleanup(signal.signal, signal.SIGINT, signal.signal(signal.SIGINT, handle))
 
-    def interrupted(self, call, text):
-        """Sends a signal in the middle of a search that takes far longer, and answers after how long it ended, by the
-        time of this process, since other work on the machine can hold the search up."""
-        over, started, sent = threading.Event(), time.process_time(), []
-
-        def send():
-            while not over.wait(0.01):
-                if time.process_time() > started + WAIT:
-                    sent.append(time.process_time())
-                    signal.raise_signal(signal.SIGINT)
-                    return
-
-        timer = threading.Thread(target=send)
-        timer.start()
-        try:
-            with self.assertRaises(Interrupted):
-                call(text)
-                self.fail("the search took too little time")
-            return time.process_time() - sent[0]
-        finally:
-            over.set()
-            timer.join()
+    def interrupted(self, answers):
+        """The answers before a signal ends a call. What ends is the call: it has no answer."""
+        answered = []
+        with self.assertRaises(Interrupted):
+            answered.extend(answers)
+            self.fail("there was no signal")
+        return answered
 
     def test_how_far_a_search_goes(self):
         """With a signal that is there when it begins, it reads one piece, and what may be the rest of a match."""
         searcher = Search([b"needle"])
         searcher.find_overlapping(b"")
-        for call in (searcher.find, searcher.findall, searcher.find_overlapping, searcher.find_earliest):
+        for asked in asked_of(searcher):
             with tempfile.NamedTemporaryFile() as file:
                 file.truncate(1 << 26)
                 with mmap.mmap(file.fileno(), 0, access=mmap.ACCESS_READ) as text:
-                    with self.assertRaises(Interrupted):
-                        call(text, Raising())
+                    self.assertEqual(self.interrupted(asked([text], [Raising()])), [])
                     self.assertLess(kibibytes_read(file.name), 2048)
 
-    def test_a_long_text(self):
-        searcher = Search([b"needle"])
-        for call in (searcher.find, searcher.findall, searcher.count, searcher.find_overlapping,
-                     lambda it: next(searcher.finditer(it))):
-            with zeros(LONG) as text:
-                self.assertLess(self.interrupted(call, text), LIMIT)
-            # (the block ends by closing the text, which can be done since no call holds it)
+    def test_between_pages_of_matches(self):
+        searcher, text = Search([b"a" * 1000 + b"b", b"a"]), bytearray(b"a" * 100000)
+        for call in (searcher.findall, searcher.count, searcher.find_overlapping, functools.partial(searcher.sub, b"")):
+            self.assertEqual(self.interrupted(map(call, [text], [Raising()])), [])
+            text += b"a"  # (it is given back)
 
-    def test_much_is_looked_at_twice(self):
-        """Behind each match the search looks as far ahead as a pattern is long."""
-        for longest in (1000, 1 << 20):
-            searcher, text = Search([b"a" * longest + b"b", b"a"]), bytearray(b"a" * (1 << 26))
-            for call in (searcher.findall, searcher.count, lambda it: searcher.sub(b"", it),
-                         lambda it: sum(1 for _ in searcher.finditer(it))):
-                self.assertLess(self.interrupted(call, text), LIMIT)
-                text += b"a"  # (it is given back)
-            self.assertEqual(searcher.find(text), Match(1, 0, 1))
+    def test_of_another_thread(self):
+        """It waits for a lock, which is released right before the search, so it runs during the search. The text would
+        take far longer, and is given back."""
+        for asked in asked_of(Search([b"needle"])):
+            with zeros(LONG) as text:
+                lock = held_lock()
+                other = threading.Thread(target=lambda: (lock.acquire(), signal.raise_signal(signal.SIGINT)))
+                other.start()
+                answers = chain(map(RELEASED, [lock]), asked([text]), map(JOINED, [other]))
+                self.assertEqual(self.interrupted(answers), [None])
 
 
 if __name__ == "__main__":

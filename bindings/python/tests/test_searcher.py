@@ -9,11 +9,13 @@ import pickle
 import random
 import re
 import resource
+import sys
 import tempfile
 import time
 import unittest
 import weakref
 from io import StringIO
+from itertools import islice
 from pathlib import Path
 from types import SimpleNamespace
 from unittest import mock
@@ -103,8 +105,8 @@ class Rows(unittest.TestCase):
         self.assertIsNone(Search([b"AB"]).find(b"ab"))
         self.assertEqual(Search([b"AB"], ignore_case=True).find(b"xaB"), Match(0, 1, 3))
         self.assertIsNone(Search([b"\xc4"], ignore_case=True).find(b"\xe4"))  # (no letters of ASCII)
-        self.assertIsNone(Search(["Ä"], ignore_case=True).find("ä"))
-        self.assertEqual(Search(["ÄA"], ignore_case=True).find("äaÄa"), Match(0, 2, 4))
+        self.assertIsNone(Search(["Ä"], ignore_case="ascii").find("ä"))
+        self.assertEqual(Search(["ÄA"], ignore_case="ascii").find("äaÄa"), Match(0, 2, 4))
 
     def test_bounds_are_those_of_a_slice(self):
         for text in (b"abxabab", "abxabab", "äöxäöäö", "🐍öx🐍ö🐍ö"):
@@ -138,6 +140,26 @@ class Rows(unittest.TestCase):
         self.assertEqual(Search(WORDS).find_each(iter([])), [])
         self.assertEqual(Search(WORDS).findall_each(lines), [[(0, 3, 8)], [], [], [(2, 0, 7), (1, 9, 14)]])
         self.assertEqual(Search(["ö"]).find_each(["äö", "o"]), [(0, 1, 2), None])
+        self.assertEqual(Search(WORDS).count_each(iter(lines)), [1, 0, 0, 2])
+
+    def test_cells_of_columns(self):
+        class Strings(bytearray):
+            """An array of strings, as numpy has them."""
+            dtype = SimpleNamespace(kind="S")
+
+            def __iter__(self):
+                return iter([b"maple", b"-"])
+
+        self.assertEqual(Search(WORDS).count_each(Strings(b"maple-")), [1, 0])
+        for searcher, text in (Search(["a"]), "a"), (Search([b"a"]), b"a"), (Search([]), b"a"):
+            cells = [None, text, float("nan")]
+            found = searcher.find(text)
+            self.assertEqual(searcher.find_each(cells, skip_missing=True), [None, found, None])
+            self.assertEqual(searcher.findall_each(cells, True), [[], [found] if found else [], []])
+            self.assertEqual(searcher.count_each(cells, skip_missing=True), [0, int(found is not None), 0])
+            for cell in cells[0], cells[2]:
+                self.assertRaises(TypeError, searcher.find_each, [cell])
+            self.assertRaises(TypeError, searcher.find_each, [1.5], skip_missing=True)
 
     def test_split(self):
         searcher = Search([b", ", b","])
@@ -155,6 +177,20 @@ class Rows(unittest.TestCase):
                     self.assertIsNone(searcher.find(text))
                     self.assertEqual((searcher.findall(text), searcher.count(text)), ([], 0))
                     self.assertEqual((searcher.split(text), searcher.subn([], text)), ([text], (text, 0)))
+
+    def test_lone_surrogates(self):
+        """Each is a character of a text, as in the name of a file."""
+        text = os.fsdecode(b"\xffa\xed\xa0\x80ba\xfe") + "\ud83d\ude00"
+        for searcher in (Search(["a", "b", "\U0001f600"]), Search(["B", "A"], ignore_case=True)):
+            spans = [it.span() for it in re.compile("[ab]").finditer(text)]
+            self.assertEqual([it.span() for it in searcher.findall(text)], spans)
+            self.assertEqual([it.span() for it in searcher.find_overlapping(text)], spans)
+            self.assertEqual([it.span() for it in searcher.finditer_stream(StringIO(text))], spans)
+            self.assertEqual([it.group() for it in searcher.finditer(text, 2, -1)], ["b", "a"])
+            self.assertEqual(searcher.sub("\ud800", text), re.sub("[ab]", "\ud800", text))
+            self.assertEqual(searcher.split(text), re.split("[ab]", text))
+            self.assertEqual([it and it.span() for it in searcher.find_each(["\udc80", "\udc80b"])], [None, (1, 2)])
+        self.assertEqual(Search(["b"], whole_words=True).findall("\ud800b\udc00 bb"), [(0, 1, 2)])
 
     def test_lists_of_any_length(self):
         for kind in Kind:
@@ -185,12 +221,37 @@ class Matches(unittest.TestCase):
         for text in ("xÄpple, äPPLE🐍apple", "x Apple, apple"):
             searcher = Search(["äpple", "apple"], ignore_case=True)
             found = searcher.findall(text)
-            self.assertEqual([it.group() for it in found], re.findall("(?i:a)(?i:pple)|ä(?i:pple)", text))
+            self.assertEqual([it.group() for it in found], re.findall("(?i:[äa]pple)", text))
             self.assertEqual([it.value for it in found], [searcher.patterns[it.pattern] for it in found])
         shorts = array.array("H", b"xxabcd..")
         for text in (b"xxabcd", bytearray(b"xxabcd"), memoryview(b"-xxabcd")[1:], shorts, memoryview(shorts)):
             match = Search([b"abc"]).find(text)
             self.assertEqual((match.group(), type(match.group()), match.value), (b"abc", bytes, b"abc"))
+        self.assertEqual(match.group(0), b"abc")
+        self.assertRaises(IndexError, match.group, 1)
+        self.assertRaises(TypeError, match.group, 0, 0)
+
+    def test_strings(self):
+        for text in ("xÄpple, äPPLE🐍apple", "x Apple, apple", "äpple" * 5000):
+            for searcher in (Search(["äpple", "apple"]), Search([Loud("äpple"), "aPPle"], ignore_case=True)):
+                found = searcher.findall_strings(text, 1, -1)
+                self.assertEqual(found, [it.group() for it in searcher.findall(text, 1, -1)])
+                self.assertEqual({type(it) for it in found} - {str}, set())
+        shorts = array.array("H", b"xxAbcd..")
+        for text in (b"xxAbcd..", bytearray(b"xxAbcd.."), shorts, memoryview(shorts)):
+            self.assertEqual(Search([b"abc", b"D"], ignore_case=True).findall_strings(text), [b"Abc", b"d"])
+
+    def test_columns(self):
+        """Below, at and above a number that is written at once."""
+        for count in (0, 1, 255, 256, 257, 9000):
+            for text in ("ä€a" * count + "ä", "bca" * count):
+                searcher = Search(["a", "ä€", "cb"])
+                found = searcher.findall(text, 1, -1)
+                columns = searcher.find_columns(text, start=1, end=-1)
+                self.assertEqual(list(zip(*columns)), found)
+                self.assertEqual([(it.typecode, len(it)) for it in columns], [("q", len(found))] * 3)
+        self.assertEqual([it.tolist() for it in Search([b"bc", b"b"]).find_columns(bytearray(b"abcb"))],
+                         [[0, 1], [1, 3], [3, 4]])
 
     def test_of_a_text_that_changes(self):
         text = bytearray(b"xxabc")
@@ -224,7 +285,7 @@ class Matches(unittest.TestCase):
         self.assertEqual(Search(Changing(a=1)).find("xa").value, 1)
         for values in ((), (1, 2), [1]):
             with self.assertRaises(ValueError):
-                Search.__new__(Search)._prepare(("a",), (b"a",), 0, False, False, None, values)
+                Search.__new__(Search)._prepare(("a",), (b"a",), 0, False, False, False, None, values)
 
     def test_searchers_of_mappings(self):
         searcher = Search({b"a": 1, b"b": [2]}, LONGEST, True)
@@ -318,14 +379,19 @@ class Overlapping(unittest.TestCase):
                 self.assertEqual(list(searcher.finditer_earliest(text)), found, (words, text))
 
     def test_a_long_pattern(self):
-        """A page lists again what lies in as many bytes as the longest pattern has, and must not do so for a few more."""
+        """A page lists again what lies in as many bytes as the longest pattern has, and must not do so for a few more.
+        Changing the text tells where a page ends: what was found is still given."""
         size = 1 << 18
         for pattern in (b"b" * 131000, b"a" * 130999 + b"b"):
-            searcher = Search([b"a", pattern])
-            searcher.find_overlapping(b"")
-            started = time.process_time()
+            searcher, given, pages = Search([b"a", pattern]), 0, 0
+            while given < size and pages < 30:
+                text = bytearray(b"a" * size)
+                matches = searcher.finditer_overlapping(text)
+                self.assertEqual(len(list(islice(matches, given + 1))), given + 1)
+                text[:] = bytes(size)
+                given, pages = given + 1 + len(list(matches)), pages + 1
+            self.assertLess(pages, 30)
             self.assertEqual(searcher.count_overlapping(b"a" * size), size)
-            self.assertLess(time.process_time() - started, 0.4)
 
     def test_a_long_pattern_at_a_cut(self):
         """What stands in front of the cut tells how far back it may begin."""
@@ -338,6 +404,15 @@ class Overlapping(unittest.TestCase):
                 found = [(it.pattern, it.start) for it in searcher.find_overlapping(text) if it.pattern == 0]
                 self.assertEqual(found, [(0, cut - before)])
                 self.assertEqual(searcher.count_overlapping(text), sum(text.count(it) for it in words))
+
+    def test_size(self):
+        searcher, longer = Search(["ab"]), Search(["ab" * 1000, "ä"])
+        sizes = sys.getsizeof(searcher), sys.getsizeof(longer)
+        self.assertGreaterEqual(sizes[0], len(searcher._prepared))
+        self.assertGreaterEqual(sizes[1] - sizes[0], len(longer._prepared) - len(searcher._prepared) + 2000)
+        longer.find_overlapping("")
+        self.assertEqual(sys.getsizeof(longer) - sizes[1], sys.getsizeof(longer._for_all))
+        self.assertGreater(sys.getsizeof(Search.__new__(Search)), 0)
 
     def test_is_prepared_once(self):
         searcher = Search([b"ab", b"b", b"b"], ignore_case=True)
@@ -388,11 +463,12 @@ class Words(unittest.TestCase):
             self.assertEqual(searcher.find(text, start), wanted[0] if wanted else None, (words, text))
 
     def test_long_texts(self):
-        for words in ([b"ab", b"abc d"], [b"ab" * 800, b"ab", b"abc d"]):
-            searcher = Search(words, LONGEST, whole_words=True)
-            text = b"abc d abx " * 250_000 + b"-ab"
-            self.assertEqual(searcher.count(text), 250_001)
-            self.assertEqual(searcher.find(b"abx " * 600_000 + b"ab"), (words.index(b"ab"), 2_400_000, 2_400_002))
+        # (with a pattern of more than 1,024 bytes each match costs a search of its own, so there are fewer)
+        for words, gap in (([b"ab", b"abc d"], b""), ([b"ab" * 800, b"ab", b"abc d"], b" " * 990)):
+            searcher, count = Search(words, LONGEST, whole_words=True), 2_500_000 // (10 + len(gap))
+            self.assertEqual(searcher.count((b"abc d abx " + gap) * count + b"-ab"), count + 1)
+            text = (b"abx ab_ x " + gap) * count + b"ab"
+            self.assertEqual(searcher.find(text), (words.index(b"ab"), 2_500_000, 2_500_002))
             for cut in range(1_048_570, 1_048_582):
                 self.assertEqual(searcher.findall(b" " * cut + b"abc d"), [(words.index(b"abc d"), cut, cut + 5)])
 
@@ -415,8 +491,6 @@ class Words(unittest.TestCase):
                 call("a")
         with self.assertRaisesRegex(ValueError, "whole words"):
             searcher.find_earliest("a")
-        with self.assertRaisesRegex(ValueError, "whole words"):
-            searcher.count_stream(StringIO("a"))
 
 
 class Replacing(unittest.TestCase):
@@ -500,6 +574,31 @@ class Copies(unittest.TestCase):
                 text = words[0].lower() if words else ""
                 self.assertEqual(copied.findall(text), searcher.findall(text))
 
+    def test_by_pickle_out_of_band(self):
+        """What is prepared is kept. It is made anew if it is damaged or has another number of patterns."""
+        for searcher in (Search(["ÄB", "b"], LONGEST, True), Search({b"AB": 1, b"C": 2}), Named("x", b"ab", b"AC")):
+            buffers = []
+            pickled = pickle.dumps(searcher, 5, buffer_callback=buffers.append)
+            self.assertEqual([bytes(it) for it in buffers], [searcher._prepared])
+            self.assertLess(len(pickled), 300)
+            with mock.patch.object(literal_search, "_begin", wraps=literal_search._begin) as begin:
+                for kept in (buffers, [bytearray(searcher._prepared)]):
+                    copied = pickle.loads(pickled, buffers=kept)
+                    self.assertEqual((copied, copied._prepared), (searcher, searcher._prepared))
+                self.assertEqual([it.args[-1] for it in begin.call_args_list], [searcher._prepared] * 2)
+            for other in (b"", b"\0" * 64, Search(["a"])._prepared):
+                copied = pickle.loads(pickled, buffers=[other])
+                self.assertEqual((copied, copied._prepared), (searcher, searcher._prepared))
+
+    def test_a_token(self):
+        """It is equal for equal searchers of one class with equal attributes, and for no others."""
+        searchers = [Search(["a", "b"]), Search(["a"]), Search([b"a"]), Search({"a": 1}), Search({"a": 2}),
+                     Search(["a"], LONGEST), Search(["a"], ignore_case=True), Search(["a"], whole_words=True),
+                     Named("x", b"a"), Named("y", b"a"), Slotted("x", 5), Slotted("x", 6)]
+        for i, first in enumerate(searchers):
+            tokens = [repr(it.__dask_tokenize__()) for it in searchers]
+            self.assertEqual(tokens.index(repr(pickle.loads(pickle.dumps(first)).__dask_tokenize__())), i)
+
     def test_of_a_subclass(self):
         named = Named("x", b"ab", b"AC")
         for copied in (copy.copy(named), copy.deepcopy(named), pickle.loads(pickle.dumps(named, 0))):
@@ -563,10 +662,14 @@ class Files(unittest.TestCase):
     def test_each_damaged_byte_is_noticed(self):
         Search([b"ab"]).save(self.path)
         whole = self.path.read_bytes()
-        for at in range(len(whole)):
-            self.path.write_bytes(whole[:at] + bytes([whole[at] ^ 1]) + whole[at + 1 :])
-            with self.assertRaisesRegex(ValueError, "a file"):
-                Search.load(self.path)
+        # (a file that is truncated and written anew each time costs far more)
+        with open(self.path, "r+b", buffering=0) as file:
+            for at, byte in enumerate(whole):
+                os.pwrite(file.fileno(), bytes([byte ^ 1]), at)
+                with self.assertRaisesRegex(ValueError, "a file"):
+                    Search.load(self.path)
+                os.pwrite(file.fileno(), bytes([byte]), at)
+        self.assertEqual(Search.load(self.path), Search([b"ab"]))
         for end in (0, 1, 60, len(whole) - 1):
             self.path.write_bytes(whole[:end])
             with self.assertRaisesRegex(ValueError, "damaged"):
@@ -574,14 +677,14 @@ class Files(unittest.TestCase):
 
     def test_a_damaged_search_in_a_sound_file(self):
         """The sum of the file is right, and the library finds what is wrong; or the search is for other patterns."""
-        searcher, other = Search([b"ab"]), Search([b"ab", b"cd"])
+        searcher = Search([b"ab"])
         whole = literal_search._written(searcher)
         places = len(whole) - 1, len(whole) - len(searcher._prepared)
         files = [whole[:at] + bytes([whole[at] ^ 1]) + whole[at + 1 :] for at in places]
-        mixed = SimpleNamespace(
-            patterns=(b"ab",), _prepared=other._prepared, kind=FIRST, ignore_case=False, whole_words=False
-        )
-        for damaged in (*files, literal_search._written(mixed)):
+        for other in (Search([b"ab", b"cd"]), Search([b"abc"])):
+            given = {"patterns": (b"ab",), "kind": FIRST, "ignore_case": False, "whole_words": False}
+            files.append(literal_search._written(SimpleNamespace(_prepared=other._prepared, **given)))
+        for damaged in files:
             self.path.write_bytes(damaged + literal_search._SUM.pack(literal_search.zlib.crc32(damaged)))
             with self.assertRaisesRegex(ValueError, "damaged"):
                 Search.load(self.path)
@@ -685,9 +788,6 @@ class Refusals(unittest.TestCase):
     def test_lone_surrogates(self):
         with self.assertRaisesRegex(ValueError, "lone surrogate"):
             Search(["a\ud800"])
-        for call in (Search(["a"]).find, Search(["a"]).findall, Search(["a"]).split, Search([]).count):
-            with self.assertRaisesRegex(ValueError, "lone surrogate"):
-                call("a\udfff")
 
     def test_an_array_of_objects_is_a_list(self):
         searcher, words = Search((ctypes.py_object * 2)("a", "b")), (ctypes.py_object * 2)("xb", "x")
@@ -696,7 +796,8 @@ class Refusals(unittest.TestCase):
 
     def test_one_text_for_a_list(self):
         for text in ("ab", "", b"ab", b"", bytearray(b"ab"), memoryview(b"ab")):
-            for call in (Search, Search([b"a"]).find_each, Search([b"a"]).findall_each):
+            of_bytes = Search([b"a"])
+            for call in (Search, of_bytes.find_each, of_bytes.findall_each, of_bytes.count_each):
                 with self.assertRaisesRegex(TypeError, "not one text"):
                     call(text)
 
@@ -717,6 +818,7 @@ class Refusals(unittest.TestCase):
             with self.assertRaises(TypeError):
                 searcher.split(*given, **named)
         for call in (searcher.find, searcher.findall, searcher.finditer, searcher.count, searcher.is_match,
+                     searcher.findall_strings, searcher.find_columns,
                      searcher.find_overlapping, searcher.find_earliest, searcher.finditer_overlapping,
                      searcher.count_overlapping):
             for given, named in (((), {}), ((b"", 0, 1, 2), {}), ((b"",), {"text": b""}), ((b"",), {"pos": 1}),
@@ -744,7 +846,7 @@ class Random(unittest.TestCase):
             longest, ignore_case = chance.random() < 0.5, chance.random() < 0.5
             haystack = text(3 if case % 2 else 24)
             start, end = sorted((chance.randint(0, len(haystack)), chance.randint(0, len(haystack))))
-            searcher = Search(patterns, Kind(longest), ignore_case)
+            searcher = Search(patterns, Kind(longest), "ascii" if ignore_case else False)
             asked = (patterns, longest, ignore_case, haystack, start, end)
             self.assertEqual(searcher.find(haystack, start, end), plain.find(*asked), asked)
             self.assertEqual(searcher.findall(haystack, start, end), plain.find_all(*asked), asked)
@@ -772,7 +874,10 @@ class Pieces(unittest.TestCase):
         """The matches, compared with those of `re`."""
         ordered = sorted(words, key=lambda it: -len(it)) if kind == LONGEST else words
         either = "|".join(ordered) if isinstance(text, str) else b"|".join(ordered)
-        wanted = [(words.index(it[0]), *it.span()) for it in re.finditer(either, text)]
+        return self.found(words, kind, text, [(words.index(it[0]), *it.span()) for it in re.finditer(either, text)])
+
+    def found(self, words, kind, text, wanted):
+        """The matches, which have to be the wanted ones."""
         searcher = Search(words, kind)
         self.assertEqual(searcher.findall(text), wanted)
         self.assertEqual(searcher.count(text), len(wanted))
@@ -784,7 +889,7 @@ class Pieces(unittest.TestCase):
         for at in range(-9, 3):
             for kind in Kind:
                 for word in words:
-                    text = bytearray(3 * self.PIECE)
+                    text = bytearray(2 * self.PIECE + 64)
                     for cut in (self.PIECE, 2 * self.PIECE):
                         text[cut + at : cut + at + len(word)] = word
                     self.assertGreaterEqual(len(self.compared(words, kind, bytes(text))), 2)
@@ -802,9 +907,9 @@ class Pieces(unittest.TestCase):
 
     def test_a_long_word_that_breaks_off(self):
         """At each match the long word could begin too. It stands behind the cut alone."""
+        wanted = [(1, at, at + 1) for at in range(self.PIECE + 400)] + [(0, self.PIECE + 400, self.PIECE + 501)]
         for kind in Kind:
-            found = self.compared([b"a" * 100 + b"b", b"a"], kind, b"a" * (self.PIECE + 500) + b"b")
-            self.assertEqual((len(found), found[-1][0]), (self.PIECE + 401, 0))
+            self.found([b"a" * 100 + b"b", b"a"], kind, b"a" * (self.PIECE + 500) + b"b", wanted)
 
     def test_a_pattern_longer_than_a_piece(self):
         pattern = b"x" * (self.PIECE + self.PIECE // 2)
@@ -818,14 +923,19 @@ class Pieces(unittest.TestCase):
 
 class Linear(unittest.TestCase):
     def test_no_pattern_spoils_the_time(self):
-        """One search after another looks up 1,000 bytes behind each match, some 10^9 in all."""
-        searcher = Search([b"a" * 1000 + b"b", b"a"])
-        for text in (b"a" * 10_000, b"a" * (1 << 20)):
-            for call in (searcher.count, lambda it: len(searcher.findall(it)), lambda it: len(searcher.split(it)) - 1,
-                         lambda it: searcher.subn(b"", it)[1], lambda it: sum(1 for _ in searcher.finditer(it))):
-                began = time.process_time()
-                self.assertEqual(call(text), len(text))
-                self.assertLess(time.process_time() - began, 1)
+        """One search after another looks up 1,000 bytes behind each match. With the short pattern alone the time is the
+        same; the least of some is taken, since other work on the machine can take much of one."""
+        short, long, text = Search([b"a"]), Search([b"a" * 1000 + b"b", b"a"]), b"a" * (1 << 20)
+        for call in (long.count, lambda it: len(long.findall(it)), lambda it: len(long.split(it)) - 1,
+                     lambda it: long.subn(b"", it)[1], lambda it: sum(1 for _ in long.finditer(it))):
+            self.assertEqual(call(text), len(text))
+
+        def time_of(searcher):
+            began = time.process_time()
+            searcher.count(text)
+            return time.process_time() - began
+
+        self.assertLess(min(time_of(long) for _ in range(5)), 6 * min(time_of(short) for _ in range(5)))
 
 
 class RefusedMemory(unittest.TestCase):

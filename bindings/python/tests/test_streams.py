@@ -88,7 +88,7 @@ class Files(unittest.TestCase):
         self.assertEqual(replaced(searcher, b"", b"cat and dog", 2), b" and ")
 
     def test_what_is_searched_and_kept(self):
-        """A character at a time, with patterns that are far longer: no byte more than twice, and no more than fits."""
+        """A character at a time, with patterns that are far longer: the parts are few, and no longer than needed."""
         for word, letter in ((b"a" * 5000 + b"b", b"a"), ("🐍" * 5000, "a"), (b"needle", b"x")):
             searcher, longest = Watched([word]), len(word if isinstance(word, bytes) else word.encode())
             self.assertEqual(searcher.count_stream(Pieces(letter * 60000, 1)), 0)
@@ -102,6 +102,38 @@ class Files(unittest.TestCase):
         file = Pieces(b"needle, and" + b" much more" * 10, 1)
         self.assertEqual(next(Search([b"needle"]).finditer_stream(file)), (0, 0, 6))
         self.assertLess(file.at, 12)
+
+
+class Occurrences(unittest.TestCase):
+    def test_as_in_the_whole_text(self):
+        chance = random.Random(8)
+        for letters in ([b"a", b"b", b"A"], ["a", "A", "ä", "🐍"]):
+            empty = letters[0][:0]
+            for _ in range(300):
+                words = [empty.join(chance.choices(letters, k=chance.randint(1, 5))) for _ in range(chance.randint(0, 4))]
+                text = empty.join(chance.choices(letters, k=chance.randint(0, 40)))
+                searcher = Search({word: i + 7 for i, word in enumerate(words)}, ignore_case=chance.random() < 0.5)
+                wanted = searcher.find_overlapping(text)
+                for size in (1, 2, 7, 61):
+                    found = list(searcher.finditer_overlapping_stream(Pieces(text, size)))
+                    self.assertEqual(found, wanted, (words, text, size))
+                    self.assertEqual([(it.group(), it.value) for it in found], [(it.group(), it.value) for it in wanted])
+
+    def test_what_is_kept(self):
+        class Parts(Search):
+            def finditer_overlapping(self, part):
+                self.__dict__.setdefault("parts", []).append(len(part))
+                return super().finditer_overlapping(part)
+
+        searcher = Parts([b"a" * 100, b"b"])
+        self.assertEqual(len(list(searcher.finditer_overlapping_stream(Pieces(b"xb" * 1000, 60)))), 1000)
+        self.assertEqual((searcher.parts[:3], max(searcher.parts)), ([60, 60 + 120, 99 + 120], 99 + 120))
+
+    def test_a_file_that_fails(self):
+        found = Search(["ab", "b"]).finditer_overlapping_stream(Pieces("xab", 2, OSError("gone")))
+        self.assertEqual([next(found), next(found)], [(0, 1, 3), (1, 2, 3)])
+        self.assertRaisesRegex(OSError, "gone", next, found)
+        self.assertRaises(BlockingIOError, list, Search(["a"]).finditer_overlapping_stream(Pieces("xa", 2, None)))
 
 
 class Refusals(unittest.TestCase):
@@ -139,8 +171,14 @@ class Refusals(unittest.TestCase):
                             ([b"a"], b"a"), ([b"a"], None)):
             with self.assertRaises((TypeError, AttributeError)):
                 list(Search(words).finditer_stream(file))
-        with self.assertRaises(ValueError):
-            list(Search(["a"]).finditer_stream(Pieces("\ud800", 1)))
+
+    def test_whole_words(self):
+        """Refused before anything is read or asked for."""
+        words, file = Search(["a"], whole_words=True), Pieces("a", 1)
+        for call in (words.finditer_stream, words.finditer_overlapping_stream, words.count_stream):
+            self.assertRaises(ValueError, call, file)
+        self.assertRaises(ValueError, words.sub_stream, file, io.StringIO(), "b")
+        self.assertEqual(file.at, 0)
 
     def test_what_replaces_nothing(self):
         searcher, out = Search([b"a"]), io.BytesIO()

@@ -7,18 +7,19 @@ from typing import Iterator, List, Optional, Tuple
 
 from literal_search import Kind, Match, Search
 
-of_str = Search(["a", "b"], Kind.LEFTMOST_LONGEST, ignore_case=True)
+of_str = Search(["a", "b"], Kind.LEFTMOST_LONGEST, ignore_case="ascii")
 of_bytes = Search([b"a", bytearray(b"b")])
 of_words: "Search[str]" = Search(["a"], whole_words=True)
 
 one: Optional[Match[str]] = of_str.find("text", 1, None)
 iterator: Iterator[Match[bytes]] = of_bytes.finditer(memoryview(b"text"), end=-1)
 many: List[List[Match[bytes]]] = of_bytes.findall_each([b"text", array("B")])
+counts: List[int] = of_str.count_each(iter(["text"])) + of_bytes.count_each([array("B")])
 every: List[Match[str]] = of_str.find_overlapping("text")
 each: Iterator[Match[bytes]] = of_bytes.finditer_overlapping(b"text")
 earliest: Optional[Match[str]] = of_str.find_earliest("text", 1)
 in_turn: Iterator[Match[bytes]] = of_bytes.finditer_earliest(b"text", end=2)
-matched: str = every[0].group()
+matched: str = every[0].group() + every[0].group(0)
 pattern, start, end = every[0]
 of_a_mapping: "Search[str]" = Search({"a": 1})
 value: int = of_a_mapping.findall("text")[0].value
@@ -26,6 +27,9 @@ streamed: Iterator[Match[bytes]] = of_bytes.finditer_stream(BytesIO(b"text"))
 in_stream: int = of_str.count_stream(StringIO("text"))
 of_bytes.sub_stream(BytesIO(b"text"), BytesIO(), lambda match: match.group())
 number: int = of_bytes.count(bytearray(b"text")) + of_str.count_overlapping("text")
+strings: List[str] = of_str.findall_strings("text", 1)
+byte_strings: List[bytes] = of_bytes.findall_strings(array("B"))
+starts: "array[int]" = of_str.find_columns("text", end=2)[1]
 parts: List[str] = of_str.split("text")
 text: str = of_str.sub(lambda match: match.group() + str(match.start), "text")
 bytes_and_number: Tuple[bytes, int] = of_bytes.subn([b"x", b"y"], b"text", count=1)
@@ -47,9 +51,12 @@ of_str.count("text", "0")  # type: ignore
 of_bytes.sub("x", b"text")  # type: ignore
 of_str.sub(lambda match: match.start, "text")  # type: ignore
 of_bytes.split("text")  # type: ignore
+of_str.findall_strings(b"text")  # type: ignore
+of_bytes.find_columns("text")  # type: ignore
 of_bytes.finditer_stream(StringIO("text"))  # type: ignore
 of_str.sub_stream(StringIO("text"), StringIO(), b"x")  # type: ignore
 of_bytes.find_each(["text"])  # type: ignore
+of_str.count_each([b"text"])  # type: ignore
 Search([1])  # type: ignore
 Search(b"ab")  # type: ignore
 Search(["a"], 0)  # type: ignore

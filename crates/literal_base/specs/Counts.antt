@@ -1,9 +1,8 @@
--- How many steps of each kind a search has taken.
+-- The steps of each kind that a search has taken.
 use Rattle.std.specs.Prelude.{ℕ, ◌+◌}
 
--- how many bytes went into a rolling sum (`hashed`), bucket entries were read (`entries`), patterns were compared with
--- the haystack (`compared`), bytes were looked up in a byte table (`scanned`), and candidate places were tried
--- (`tried`)
+-- the number of bytes added to a rolling sum (`hashed`), bucket entries read (`entries`), patterns compared with the
+-- haystack (`compared`), bytes looked up in a byte table (`scanned`), and candidate offsets tried (`tried`)
 pub record Counts : Type 0 where
   pub hashed : ℕ
   pub entries : ℕ
@@ -11,11 +10,11 @@ pub record Counts : Type 0 where
   pub scanned : ℕ
   pub tried : ℕ
 
--- no step
+-- no steps
 abbrev pub none_yet : Counts
 none_yet = record { hashed = 0; entries = 0; compared = 0; scanned = 0; tried = 0 }
 
--- two counts added up, each with its like
+-- the sums of two counts, kind by kind
 abbrev pub plus : Counts → Counts → Counts
 plus a b = record {
   hashed = a.hashed + b.hashed;

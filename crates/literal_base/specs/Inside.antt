@@ -1,2 +1,2 @@
--- What models and private functions alone cite.
+-- Definitions that only models and private functions use.
 pub mod Classes

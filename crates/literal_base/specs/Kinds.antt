@@ -5,13 +5,13 @@ use Rattle.literal_base.specs.declared.packed.MatchKind.TheVariants as packed_ki
 use Rattle.literal_base.specs.declared.search.MatchKind.{MatchKind}
 use Rattle.literal_base.specs.declared.search.MatchKind.TheVariants.{Standard, LeftmostFirst, LeftmostLongest}
 
--- the packed search's match kind of the same name, and None for `Standard`, which a packed search does not have
+-- the packed match kind with the same name, or None for `Standard`, which a packed search does not have
 abbrev pub packed_kind_of : MatchKind → Option packed.MatchKind
 packed_kind_of Standard = None
 packed_kind_of LeftmostFirst = Some packed_kind.LeftmostFirst
 packed_kind_of LeftmostLongest = Some packed_kind.LeftmostLongest
 
--- the match kind that has the name of the packed search's
+-- the match kind with the same name as the packed one
 abbrev pub root_kind_of : packed.MatchKind → MatchKind
 root_kind_of packed_kind.LeftmostFirst = LeftmostFirst
 root_kind_of packed_kind.LeftmostLongest = LeftmostLongest

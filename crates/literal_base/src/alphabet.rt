@@ -1,4 +1,4 @@
-//! Sets of bytes, and classes of bytes.
+//! Byte sets and byte classes.
 ghost use Rattle.std.specs.Prelude.{◌≡◌, ◌==◌, ◌||◌, ◌+◌, ◌^◌, ◌≤◌, ◌↔◌, ℕ, true, false, IsTrue, length, slice_index};
 ghost use Rattle.std.specs.Prelude.{slice_set};
 ghost use Rattle.std.specs.Iterator.{YieldsFirst, item_count};
@@ -9,8 +9,8 @@ ghost use Rattle.literal_base.specs.Classes.{AreRuns};
 
 use std::marker::Model;
 
-/// A class for each of the 256 bytes, which is a number from 0 to 255. Contracts see the list of the
-/// classes, from that of byte 0 up.
+/// The classes of the 256 bytes; each class is a number from 0 to 255. Contracts see the list of the classes, from that
+/// of byte 0 up.
 ///
 /// ```rust
 /// let mut set = ByteClassSet::empty();
@@ -37,14 +37,14 @@ impl Model for ByteClasses {
 }
 
 impl ByteClasses {
-    /// Every byte has class 0.
+    /// Gives all bytes class 0.
     pub fn empty() -> ByteClasses
         ensures { result ≡ by_byte (λ _. 0) }
     {
         ByteClasses { classes: [0; 256] }
     }
 
-    /// Each byte has a class of its own, with the byte's number.
+    /// Gives each byte its own number as its class.
     pub fn singletons() -> ByteClasses
         ensures { result ≡ by_byte (λ b. b) }
     {
@@ -55,7 +55,7 @@ impl ByteClasses {
         classes
     }
 
-    /// Gives a byte another class.
+    /// Changes the class of a byte.
     pub fn set(&mut self, byte: u8, class: u8)
         ensures { self.new ≡ slice_set self.old byte class }
     {
@@ -69,9 +69,8 @@ impl ByteClasses {
         self.classes[byte as usize]
     }
 
-    /// One more than the class of byte 255. That is the number of the classes where they are
-    /// numbered without a gap and byte 255 has the greatest, as [`ByteClassSet::byte_classes`] makes
-    /// them.
+    /// One more than the class of byte 255. This is the number of classes if they are numbered without a gap and byte
+    /// 255 has the greatest, as in [`ByteClassSet::byte_classes`].
     pub fn alphabet_len(&self) -> usize
         ensures len { result ≡ alphabet_len_of self.now }
         ensures few { result ≤ 256 }
@@ -79,7 +78,7 @@ impl ByteClasses {
         self.classes[255] as usize + 1
     }
 
-    /// The least number whose power of two is at least [`ByteClasses::alphabet_len`].
+    /// The exponent of the least power of two that is at least [`ByteClasses::alphabet_len`].
     pub fn stride2(&self) -> usize
         ensures stride2 { IsStride2 self.now result }
         ensures few { result ≤ 8 }
@@ -94,14 +93,14 @@ impl ByteClasses {
         1 << self.stride2()
     }
 
-    /// Whether [`ByteClasses::alphabet_len`] is 256, as where each byte has a class of its own.
+    /// Whether [`ByteClasses::alphabet_len`] is 256, as if each byte has its own class.
     pub fn is_singleton(&self) -> bool
         ensures { IsTrue result ↔ (alphabet_len_of self.now ≡ 256) }
     {
         self.alphabet_len() == 256
     }
 
-    /// The classes from 0 up, as many as [`ByteClasses::alphabet_len`] says.
+    /// The classes from 0 up, as many as [`ByteClasses::alphabet_len`].
     pub fn iter(&self) -> ByteClassIter<'_>
         ensures classes { result ≡ range_with_len 0 (alphabet_len_of self.now) }
         ensures few { length result ≤ 256 }
@@ -113,12 +112,12 @@ impl ByteClasses {
         }
     }
 
-    /// The bytes of a class, in rising order.
+    /// The bytes of a class, in ascending order.
     pub fn elements(&self, class: u8) -> ByteClassElements<'_>
         ensures bytes { result ≡ elements_of self.now class }
         ensures few { length result ≤ 256 }
     {
-        let _ = &self.classes; // (a read, after which the proof has what the fields keep)
+        let _ = &self.classes; // (a read, which gives the proof the invariant of the fields)
         ByteClassElements {
             classes: self,
             class,
@@ -126,7 +125,7 @@ impl ByteClasses {
         }
     }
 
-    /// The bytes of a class as the first and the last of each maximal run, in rising order.
+    /// The maximal runs of the bytes of a class, each with its first and its last byte, in ascending order.
     pub fn element_ranges(&self, class: u8) -> ByteClassElementRanges<'_>
         ensures runs { AreRuns (elements_of self.now class) result }
         ensures few { length result ≤ 256 }
@@ -138,7 +137,7 @@ impl ByteClasses {
     }
 }
 
-/// An iteration over classes. Contracts see the list of those that are left.
+/// An iterator over classes. Contracts see the list of those that are left.
 #[derive(Drop)]
 pub struct ByteClassIter<'a> {
     classes: &'a ByteClasses,
@@ -171,7 +170,7 @@ impl<'a> Iterator for ByteClassIter<'a> {
     }
 }
 
-/// An iteration over the bytes of a class. Contracts see the list of those that are left.
+/// An iterator over the bytes of a class. Contracts see the list of those that are left.
 #[derive(Drop)]
 pub struct ByteClassElements<'a> {
     classes: &'a ByteClasses,
@@ -209,8 +208,8 @@ impl<'a> Iterator for ByteClassElements<'a> {
     }
 }
 
-/// An iteration over the maximal runs of a class's bytes. Contracts see the list of those that are
-/// left, each with its first byte and its last.
+/// An iterator over the maximal runs of a class's bytes. Contracts see the list of those that are left, each with its
+/// first and its last byte.
 #[derive(Drop)]
 pub struct ByteClassElementRanges<'a> {
     elements: ByteClassElements<'a>,
@@ -250,8 +249,8 @@ impl<'a> Iterator for ByteClassElementRanges<'a> {
     }
 }
 
-/// A set of marked bytes, by which bytes are told apart: a class ends with each of them. Contracts see
-/// a test for each of the 256 bytes.
+/// A set of marked bytes, which separate classes: a class ends with each of them. Contracts see a boolean for each of
+/// the 256 bytes.
 #[derive(Clone, Debug, Drop)]
 pub struct ByteClassSet {
     marked: ByteSet,
@@ -268,7 +267,7 @@ impl Model for ByteClassSet {
 }
 
 impl ByteClassSet {
-    /// No byte is marked, so that all bytes are of one class.
+    /// No byte is marked, so all bytes have one class.
     pub fn empty() -> ByteClassSet
         ensures { result ≡ no_bytes }
     {
@@ -277,8 +276,8 @@ impl ByteClassSet {
         }
     }
 
-    /// Tells the bytes from `start` up to and including `end` from all others: marks `end`, and the
-    /// byte before `start` if there is one. `start` has to be at most `end`.
+    /// Separates the bytes from `start` to `end`, both included, from all others. It marks `end`, and the byte before
+    /// `start` if there is one. `start` has to be at most `end`.
     pub fn set_range(&mut self, start: u8, end: u8)
         requires { start ≤ end }
         ensures { self.new ≡ with_range_marked self.old start end }
@@ -317,7 +316,7 @@ impl Default for ByteClassSet {
     }
 }
 
-/// A set of bytes. Contracts see a test for each of the 256 bytes.
+/// A set of bytes. Contracts see a boolean for each of the 256 bytes.
 #[derive(Clone, Copy, Debug, PartialEq, Eq)]
 pub struct ByteSet {
     members: [bool; 256],
@@ -336,7 +335,7 @@ impl Model for ByteSet {
 }
 
 impl ByteSet {
-    /// No byte.
+    /// The set of no byte.
     pub fn empty() -> ByteSet
         ensures all { result ≡ no_bytes }
         ensures each { (b : ℕ) → contains result b ≡ false }
@@ -346,7 +345,7 @@ impl ByteSet {
         }
     }
 
-    /// Adds a byte, which changes nothing where the byte is in the set.
+    /// Puts a byte into the set, if it is not there yet.
     pub fn add(&mut self, byte: u8)
         ensures all { self.new ≡ slice_set self.old byte true }
         ensures each { (b : ℕ) → contains self.new b ≡ (contains self.old b || b == byte) }
@@ -374,7 +373,7 @@ impl Default for ByteSet {
     }
 }
 
-/// The same letter in the other case for A to Z and a to z, and each other byte itself.
+/// The same letter in the other case for A to Z and a to z. Any other byte is unchanged.
 pub fn opposite_ascii_case(byte: u8) -> u8
     ensures { result ≡ opposite_case byte }
 {

@@ -2,9 +2,9 @@
 ghost use Rattle.std.specs.Prelude.{◌≡◌};
 ghost use Rattle.literal_base.specs.Rank.{rank_of};
 
-/// A rank for each byte, from byte 0 up; a higher one means a more common byte. The numbers are given
-/// data, after the table of the Rust crate `aho-corasick`. By them a prefilter chooses the bytes that
-/// it looks for. Nothing is claimed of how well they describe a haystack.
+/// A rank for each byte, from byte 0 up; a higher rank means a more common byte. The numbers are given data, after the
+/// table of the Rust crate `aho-corasick`. By them a prefilter chooses the bytes to look for. Nothing is proved about
+/// how well they fit a haystack.
 pub const BYTE_FREQUENCIES: [u8; 256] = [
     55, 52, 51, 50, 49, 48, 47, 46, 45, 103, 242, 66, 67, 229, 44, 43, 42, 41, 40, 39, 38, 37, 36,
     35, 34, 33, 56, 32, 31, 30, 29, 28, 255, 148, 164, 149, 136, 160, 155, 173, 221, 222, 134, 122,
@@ -22,7 +22,7 @@ pub const BYTE_FREQUENCIES: [u8; 256] = [
     255,
 ];
 
-/// The rank of a byte, from 0 to 255; a higher one means a more common byte.
+/// The rank of a byte, from 0 to 255; a higher rank means a more common byte.
 pub fn freq_rank(byte: u8) -> u8
     ensures { result ≡ rank_of byte }
 {

@@ -1,5 +1,4 @@
-//! Laws of the definitions that contracts cite. Each function does nothing, and its contract is the
-//! law.
+//! Laws of the definitions in contracts. Each function does nothing; its contract is the law.
 ghost use Rattle.std.specs.Prelude.{◌≡◌, ◌≢◌, ◌+◌, ◌-◌, ◌<◌, ◌≤◌, ◌↔◌, ◌⊎◌, [], ◌∷◌, ◌++◌, List, ℕ, Bool, Option};
 ghost use Rattle.std.specs.Prelude.{IsTrue, length, slice_index, true};
 ghost use Rattle.std.specs.List.{All, Contains};
@@ -44,14 +43,14 @@ pub fn leftmost_is_unique()
         → a ≡ b }
 {}
 
-/// Where no pattern is empty, there is a greedy list from every place on.
+/// If no pattern is empty, there is a greedy list from every offset on.
 pub fn greedy_exists()
     ensures { (query : Query) (ignore_case : Bool) (haystack : List ℕ) (at : ℕ)
         → NoneIsEmpty query.patterns
         → (all : List MatchValue) × IsGreedy query ignore_case haystack at all }
 {}
 
-/// There are no two greedy lists from one place on.
+/// There are no two greedy lists from the same offset on.
 pub fn greedy_is_unique()
     ensures { (query : Query) (ignore_case : Bool) (haystack : List ℕ) (at : ℕ) (a b : List MatchValue)
         → IsGreedy query ignore_case haystack at a
@@ -59,8 +58,8 @@ pub fn greedy_is_unique()
         → a ≡ b }
 {}
 
-/// The matches of a greedy list are non-empty, in order, and don't overlap, and no pattern occurs
-/// whole before the first, between two neighbours, or after the last, with case kept or ignored.
+/// The matches of a greedy list are non-empty, in order, and don't overlap. No pattern occurs whole before the first,
+/// between two neighbours, or after the last. This holds with case kept or ignored.
 pub fn greedy_lists_lie_apart()
     ensures { (query : Query) (ignore_case : Bool) (haystack : List ℕ) (at : ℕ) (all : List MatchValue)
         → at ≤ length haystack
@@ -68,7 +67,8 @@ pub fn greedy_lists_lie_apart()
         → LieApart query.patterns ignore_case haystack at all }
 {}
 
-/// Whatever occurs in a haystack has a place in a match of the greedy list, and no match ends behind the haystack.
+/// Each occurrence in a haystack shares an offset with a match of the greedy list, and no match ends after the
+/// haystack.
 pub fn matches_meet_all_that_occurs()
     ensures meets { (query : Query) (ignore_case : Bool) (haystack : List ℕ) (all : List MatchValue)
         → NoneIsEmpty query.patterns
@@ -81,15 +81,15 @@ pub fn matches_meet_all_that_occurs()
         → All (λ found. found.end ≤ length haystack) all }
 {}
 
-/// The test whether a pattern occurs tells just that.
+/// The test `one_occurs` says whether a pattern occurs.
 pub fn one_occurs_where_a_pattern_does()
     ensures { (patterns : List (List ℕ)) (ignore_case : Bool) (haystack : List ℕ)
         → IsTrue (one_occurs patterns ignore_case haystack)
         ↔ ((i : ℕ) × (at : ℕ) × Occurs patterns ignore_case haystack (whole_of haystack) i at) }
 {}
 
-/// With [`MatchKind::LeftmostLongest`](crate::packed::MatchKind::LeftmostLongest) the smallest
-/// identifier of equal patterns is answered.
+/// With [`MatchKind::LeftmostLongest`](crate::packed::MatchKind::LeftmostLongest), the match has the smallest
+/// identifier of equal patterns.
 pub fn longest_answers_the_first_of_equal_patterns()
     ensures { (query : Query) (ignore_case : Bool) (haystack : List ℕ) (span : Span) (found : MatchValue) (j : ℕ)
         → query.kind ≡ LeftmostLongest
@@ -99,8 +99,8 @@ pub fn longest_answers_the_first_of_equal_patterns()
         → found.pattern ≤ j }
 {}
 
-/// With [`MatchKind::LeftmostFirst`](crate::packed::MatchKind::LeftmostFirst) the order of adding
-/// alone decides at a place: the smallest identifier that occurs there is answered.
+/// With [`MatchKind::LeftmostFirst`](crate::packed::MatchKind::LeftmostFirst), the match has the smallest identifier of
+/// all patterns that occur at its offset. So only the order in which they were added decides.
 pub fn first_answers_the_first_added()
     ensures { (query : Query) (ignore_case : Bool) (haystack : List ℕ) (span : Span) (found : MatchValue) (j : ℕ)
         → query.kind ≡ LeftmostFirst
@@ -109,19 +109,19 @@ pub fn first_answers_the_first_added()
         → found.pattern ≤ j }
 {}
 
-/// Equal spans hash alike: they make the same writes to every hasher.
+/// Equal spans write the same to every hasher.
 pub fn equal_spans_hash_alike()
     ensures { (a b : Span) → IsTrue (⟦<Span as PartialEq>⟧.eq a b)
         → ⟦<Span as Hash>⟧.hash_input a ≡ ⟦<Span as Hash>⟧.hash_input b }
 {}
 
-/// Equal matches hash alike: they make the same writes to every hasher.
+/// Equal matches write the same to every hasher.
 pub fn equal_matches_hash_alike()
     ensures { (a b : MatchValue) → IsTrue (⟦<Match as PartialEq>⟧.eq a b)
         → ⟦<Match as Hash>⟧.hash_input a ≡ ⟦<Match as Hash>⟧.hash_input b }
 {}
 
-/// Neighbouring bytes are of one class exactly if no range that was marked holds just one of them.
+/// Neighbouring bytes share a class exactly if no marked range contains just one of them.
 pub fn neighbours_share_a_class()
     ensures { (ranges : List (ℕ × ℕ)) (b : ℕ)
         → All (λ range. range.0 ≤ range.1) ranges
@@ -129,8 +129,8 @@ pub fn neighbours_share_a_class()
         → (class_of (marks_of ranges) b ≡ class_of (marks_of ranges) (b + 1)) ↔ NonePart ranges b }
 {}
 
-/// Bytes of one class are in the same ranges, of those that were marked: no range holds just one of
-/// them. So a table with a column for each class can answer as one with a column for each byte.
+/// Bytes of one class are in the same marked ranges: no range contains just one of them. So a table with a column for
+/// each class can answer like one with a column for each byte.
 pub fn a_class_is_in_the_same_ranges()
     ensures { (ranges : List (ℕ × ℕ)) (b c : ℕ)
         → All (λ range. range.0 ≤ range.1) ranges
@@ -140,31 +140,31 @@ pub fn a_class_is_in_the_same_ranges()
         → All (λ range. holds range b ≡ holds range c) ranges }
 {}
 
-/// The marks of a list of ranges come from no mark by marking one range after another.
+/// Marking the ranges of a list one after another gives the marks of the list.
 pub fn marks_come_range_by_range()
     ensures none { marks_of [] ≡ no_bytes }
     ensures one_more { (ranges : List (ℕ × ℕ)) (start end : ℕ)
         → marks_of (ranges ++ (start, end) ∷ []) ≡ with_range_marked (marks_of ranges) start end }
 {}
 
-/// No bytes have two lists of maximal runs.
+/// The same bytes have at most one list of maximal runs.
 pub fn runs_are_unique()
     ensures { (bytes : List ℕ) (a b : List (ℕ × ℕ)) → AreRuns bytes a → AreRuns bytes b → a ≡ b }
 {}
 
-/// Neither the byte before a maximal run nor the byte after it is among the bytes.
+/// Neither the byte before a maximal run nor the byte after it is in the list of bytes.
 pub fn runs_are_maximal()
     ensures { (bytes : List ℕ) (runs : List (ℕ × ℕ))
         → AreRuns bytes runs
         → All (λ run. ¬ Contains bytes (run.1 + 1) × (0 < run.0 → ¬ Contains bytes (run.0 - 1))) runs }
 {}
 
-/// The other case of the other case is the byte itself.
+/// The other case of a byte's other case is the byte itself.
 pub fn opposite_case_is_its_own_inverse()
     ensures { (b : ℕ) → opposite_case (opposite_case b) ≡ b }
 {}
 
-/// The list with a value for each byte has that value at each byte, and no more values.
+/// The list `by_byte f` has the value of `f` at each byte, and no more values.
 pub fn by_byte_gives_each_value()
     ensures number { (f : ℕ → ℕ) (b : ℕ) → b < 256 → slice_index (by_byte f) b ≡ f b }
     ensures truth { (f : ℕ → Bool) (b : ℕ) → b < 256 → contains (by_byte f) b ≡ f b }
@@ -172,14 +172,14 @@ pub fn by_byte_gives_each_value()
     ensures truths { (f : ℕ → Bool) → length (by_byte f) ≡ 256 }
 {}
 
-/// The class of each byte is below the length of the alphabet, where the classes come from marks.
+/// If the classes come from marks, the class of each byte is below the alphabet length.
 pub fn classes_are_below_the_alphabet_len()
     ensures { (marked : List Bool) (b : ℕ) → b < 256
         → slice_index (by_byte (class_of marked)) b < alphabet_len_of (by_byte (class_of marked)) }
 {}
 
-/// Where the classes come from marks, each class below the length of the alphabet has a byte, so the
-/// list of its bytes is not empty.
+/// If the classes come from marks, each class below the alphabet length has a byte, so the list of its bytes is not
+/// empty.
 pub fn classes_have_bytes()
     ensures byte { (marked : List Bool) (class : ℕ) → class < alphabet_len_of (by_byte (class_of marked))
         → (b : ℕ) × b < 256 × (slice_index (by_byte (class_of marked)) b ≡ class) }
@@ -187,8 +187,7 @@ pub fn classes_have_bytes()
         → elements_of (by_byte (class_of marked)) class ≢ [] }
 {}
 
-/// Every iteration over classes, bytes or runs gives each of what is left in turn, then nothing for
-/// ever.
+/// Every iteration over classes, bytes or runs gives each element that is left in turn, and then always `None`.
 pub fn iterations_end()
     ensures classes { GivesEachThenNone (λ class. class) ⟦<ByteClassIter<'static> as Iterator>⟧.next_gives }
     ensures elements { GivesEachThenNone (λ byte. byte) ⟦<ByteClassElements<'static> as Iterator>⟧.next_gives }
@@ -201,7 +200,7 @@ pub fn cases_make_the_same_pairs()
         → (to_ascii_lowercase a ≡ to_ascii_lowercase b) ↔ ((a ≡ b) ⊎ (opposite_case a ≡ b)) }
 {}
 
-/// Spans, matches and sets of bytes are equal exactly if contracts see the same of them.
+/// Spans, matches and byte sets are equal exactly if contracts see the same value.
 pub fn values_are_compared_by_all_their_parts()
     ensures span { (a b : Span) → IsTrue (⟦<Span as PartialEq>⟧.eq a b) ↔ (a ≡ b) }
     ensures found { (a b : MatchValue) → IsTrue (⟦<Match as PartialEq>⟧.eq a b) ↔ (a ≡ b) }
@@ -216,14 +215,14 @@ pub fn kinds_are_compared_by_variant()
     ensures packed { (a b : PackedMatchKind) → IsTrue (⟦<packed::MatchKind as PartialEq>⟧.eq a b) ↔ (a ≡ b) }
 {}
 
-/// Spans and matches write all their parts to a hasher, one after another, and nothing else.
+/// Spans and matches write all their parts to a hasher, in order, and nothing else.
 pub fn values_hash_all_their_parts()
     ensures span { (span : Span) → ⟦<Span as Hash>⟧.hash_input span ≡ usize span.start ++ usize span.end }
     ensures found { (found : MatchValue)
         → ⟦<Match as Hash>⟧.hash_input found ≡ u32 found.pattern ++ usize found.start ++ usize found.end }
 {}
 
-/// A clone of a plain value, a set of bytes, classes or an input takes no memory, and is the same value.
+/// A clone of a plain value, a byte set, classes or an input is the same value, and allocates nothing.
 pub fn clones_are_equal()
     ensures span { ClonesExactly ⟦<Span as Clone>⟧.is_clone ⟦<Span as Clone>⟧.is_infallible }
     ensures found { ClonesExactly ⟦<Match as Clone>⟧.is_clone ⟦<Match as Clone>⟧.is_infallible }

@@ -1,5 +1,5 @@
-//! Spans, matches, what a search is asked for, sets and classes of bytes, ranks of bytes, counts of
-//! steps, and the definitions of what a search has to answer.
+//! Spans, matches, search inputs, byte sets, byte classes, byte ranks, counts of steps, and the definitions of the
+//! answers of a search.
 #![tactic(auto)]
 
 pub mod alphabet;

@@ -1,11 +1,11 @@
-//! What a search for several patterns and the layers below it share.
+//! The match kind of searches for several patterns, and of the layers below.
 
-/// Which of the occurrences that begin at one place is the match.
+/// Which occurrence is the match if several begin at the same offset.
 #[derive(Clone, Copy, Debug, PartialEq, Eq)]
 pub enum MatchKind {
-    /// The one whose pattern was added first.
+    /// The one of the pattern that was added first.
     LeftmostFirst,
-    /// The longest, and among equal lengths the one whose pattern was added first.
+    /// The longest, and of the longest the one of the pattern that was added first.
     LeftmostLongest,
 }
 

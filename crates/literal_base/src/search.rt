@@ -1,5 +1,4 @@
-//! Spans of a haystack, matches in it, and what a search is asked for. All offsets are in bytes, from
-//! the beginning of the whole haystack.
+//! Spans of a haystack, matches in it, and search inputs. All offsets are in bytes of the whole haystack.
 ghost use Rattle.std.specs.Prelude.{◌≡◌, ◌≤◌, ◌<◌, ◌+◌, ◌-◌, ◌^◌, ◌++◌, ◌↔◌, ◌⊎◌, IsTrue, IsCharBoundary, ⊤, Some};
 ghost use Rattle.std.specs.Prelude.{codes, drop, false, length, slice_range, take};
 ghost use Rattle.std.specs.Borrow.{Array, Lends, sem, u8};
@@ -13,15 +12,14 @@ use std::fmt;
 use std::marker::Model;
 use std::ops::Range;
 
-/// What a search is asked for: a haystack, the bounds between which it is searched, whether it is
-/// anchored, and whether it is to end early. Contracts see these five.
+/// The input of a search: a haystack, the two bounds of the search, whether it is anchored, and whether it may end
+/// early. Contracts see these five.
 ///
-/// The end is never beyond the haystack's length, and the start never more than one beyond the end.
-/// The bounds are a valid span of the haystack, except where the start is one beyond the end: there
-/// no search is left, as [`Input::is_done`] tells.
+/// The end is at most the haystack's length, and the start at most one more than the end. The bounds are a valid span
+/// of the haystack, unless the start is one more than the end: then the search is over, as [`Input::is_done`] says.
 ///
-/// No search of these crates takes an `Input`: hand on its haystack and its span. What `anchored` and
-/// `earliest` ask for is for layers above to heed.
+/// No search of these crates takes an `Input`: pass on its haystack and its span. Layers above have to obey `anchored`
+/// and `earliest`.
 ///
 /// ```rust
 /// let mut input = Input::new(b"abcabc").range(1..4);
@@ -56,7 +54,7 @@ impl<'h> Model for Input<'h> {
 impl<'h> Input<'h> {
     ghost use Rattle.literal_base.specs.InputValue.{AreBounds};
 
-    /// A search of the whole haystack that is neither anchored nor to end early.
+    /// The input for the whole haystack, neither anchored nor ending early.
     pub fn new(haystack: &'h [u8]) -> Input<'h>
         ensures { result ≡ record {
           haystack = haystack.now;
@@ -77,8 +75,8 @@ impl<'h> Input<'h> {
         }
     }
 
-    /// The search, now between the bounds of the span. Its end has to be at most the haystack's
-    /// length, and its start at most one beyond its end.
+    /// The input with the bounds of the span. Its end has to be at most the haystack's length, and its start at most
+    /// one more than its end.
     pub fn span(mut self, span: Span) -> Input<'h>
         requires { AreBounds self.haystack span.start span.end }
         ensures { result ≡ record self.entry { start = span.start; end = span.end } }
@@ -87,8 +85,8 @@ impl<'h> Input<'h> {
         self
     }
 
-    /// The search, now between the bounds of the range. Its end has to be at most the haystack's
-    /// length, and its start at most one beyond its end.
+    /// The input with the bounds of the range. Its end has to be at most the haystack's length, and its start at most
+    /// one more than its end.
     pub fn range(mut self, range: Range<usize>) -> Input<'h>
         requires { AreBounds self.haystack range.start range.end }
         ensures { result ≡ record self.entry { start = range.start; end = range.end } }
@@ -97,8 +95,8 @@ impl<'h> Input<'h> {
         self
     }
 
-    /// The search, now from the byte at `first` up to and including the byte at `last`, both
-    /// offsets. `last` has to lie below the haystack's length, and `first` at most two beyond `last`.
+    /// The input for the bytes from offset `first` to offset `last`, both included. `last` has to be below the
+    /// haystack's length, and `first` at most `last` + 2.
     pub fn range_inclusive(mut self, first: usize, last: usize) -> Input<'h>
         requires { AreBounds self.haystack first (last + 1) }
         ensures { result ≡ record self.entry { start = first; end = last + 1 } }
@@ -107,7 +105,7 @@ impl<'h> Input<'h> {
         self
     }
 
-    /// The search, now anchored or not.
+    /// The input, anchored or not.
     pub fn anchored(mut self, mode: Anchored) -> Input<'h>
         ensures { result ≡ record self.entry { anchored = mode } }
     {
@@ -115,7 +113,7 @@ impl<'h> Input<'h> {
         self
     }
 
-    /// The search, which now is to end as soon as any match is known where `yes` is true.
+    /// The input, which ends as soon as any match is known if `yes` is true.
     pub fn earliest(mut self, yes: bool) -> Input<'h>
         ensures { result ≡ record self.entry { earliest = yes } }
     {
@@ -123,8 +121,8 @@ impl<'h> Input<'h> {
         self
     }
 
-    /// Sets both bounds to the bounds of the span. Its end has to be at most the haystack's length, and
-    /// its start at most one beyond its end.
+    /// Takes both bounds from the span. Its end has to be at most the haystack's length, and its start at most one more
+    /// than its end.
     pub fn set_span(&mut self, span: Span)
         requires { AreBounds self.old.haystack span.start span.end }
         ensures { self.new ≡ record self.old { start = span.start; end = span.end } }
@@ -132,8 +130,8 @@ impl<'h> Input<'h> {
         self.bounds = span;
     }
 
-    /// Sets both bounds to the bounds of the range. Its end has to be at most the haystack's length, and
-    /// its start at most one beyond its end.
+    /// Takes both bounds from the range. Its end has to be at most the haystack's length, and its start at most one
+    /// more than its end.
     pub fn set_range(&mut self, range: Range<usize>)
         requires { AreBounds self.old.haystack range.start range.end }
         ensures { self.new ≡ record self.old { start = range.start; end = range.end } }
@@ -141,9 +139,8 @@ impl<'h> Input<'h> {
         self.set_span(Span::from(range));
     }
 
-    /// Sets the bounds so that the bytes from the one at `first` up to and including that at `last`
-    /// are searched, both of them offsets. `last` has to lie below the haystack's length, and `first`
-    /// at most two beyond `last`.
+    /// Sets the bounds to the bytes from offset `first` to offset `last`, both included. `last` has to be below the
+    /// haystack's length, and `first` at most `last` + 2.
     pub fn set_range_inclusive(&mut self, first: usize, last: usize)
         requires { AreBounds self.old.haystack first (last + 1) }
         ensures { self.new ≡ record self.old { start = first; end = last + 1 } }
@@ -155,7 +152,7 @@ impl<'h> Input<'h> {
         });
     }
 
-    /// Sets the start alone, which has to be at most one beyond the end.
+    /// Sets only the start, which has to be at most one more than the end.
     pub fn set_start(&mut self, start: usize)
         requires { start ≤ self.old.end + 1 }
         ensures { self.new ≡ record self.old { start = start } }
@@ -163,8 +160,7 @@ impl<'h> Input<'h> {
         self.bounds.start = start;
     }
 
-    /// Sets the end alone, which has to be at most the haystack's length. The start has to be at most
-    /// one beyond it.
+    /// Sets only the end, which has to be at most the haystack's length. The start has to be at most one more than it.
     pub fn set_end(&mut self, end: usize)
         requires { AreBounds self.old.haystack self.old.start end }
         ensures { self.new ≡ record self.old { end = end } }
@@ -172,14 +168,14 @@ impl<'h> Input<'h> {
         self.bounds.end = end;
     }
 
-    /// Sets whether the search is anchored.
+    /// Anchors the search, or not.
     pub fn set_anchored(&mut self, mode: Anchored)
         ensures { self.new ≡ record self.old { anchored = mode } }
     {
         self.anchored = mode;
     }
 
-    /// Sets whether the search is to end as soon as any match is known.
+    /// Sets whether the search ends as soon as any match is known.
     pub fn set_earliest(&mut self, yes: bool)
         ensures { self.new ≡ record self.old { earliest = yes } }
     {
@@ -194,7 +190,7 @@ impl<'h> Input<'h> {
         self.haystack
     }
 
-    /// The offset at which the search starts.
+    /// The offset from which the search begins.
     pub fn start(&self) -> usize
         ensures start { result ≡ self.now.start }
         ensures bounds { AreBounds self.now.haystack self.now.start self.now.end }
@@ -203,7 +199,7 @@ impl<'h> Input<'h> {
         self.get_span().start
     }
 
-    /// The offset before which the search ends.
+    /// The offset up to which the search goes.
     pub fn end(&self) -> usize
         ensures end { result ≡ self.now.end }
         ensures bounds { AreBounds self.now.haystack self.now.start self.now.end }
@@ -212,7 +208,7 @@ impl<'h> Input<'h> {
         self.get_span().end
     }
 
-    /// Both bounds as a span, which is no valid one where the search is done.
+    /// Both bounds as a span. It is not a valid span if the search is over.
     pub fn get_span(&self) -> Span
         ensures span { result ≡ record { start = self.now.start; end = self.now.end } }
         ensures bounds { AreBounds self.now.haystack self.now.start self.now.end }
@@ -232,22 +228,22 @@ impl<'h> Input<'h> {
         self.get_span().range()
     }
 
-    /// Whether the search is anchored, as a mode.
+    /// The anchored mode: whether the search is anchored.
     pub fn get_anchored(&self) -> Anchored
         ensures { result ≡ self.now.anchored }
     {
         self.anchored
     }
 
-    /// Whether the search is to end as soon as any match is known.
+    /// Whether the search ends as soon as any match is known.
     pub fn get_earliest(&self) -> bool
         ensures { result ≡ self.now.earliest }
     {
         self.earliest
     }
 
-    /// Whether the start is beyond the end, so that nothing is left to search. Where it is not, the
-    /// bounds are a valid span of the haystack.
+    /// Whether the start is after the end, so that the search is over. If it is not, the bounds are a valid span of the
+    /// haystack.
     pub fn is_done(&self) -> bool
         ensures done { IsTrue result ↔ (self.now.end < self.now.start) }
         ensures bounds { AreBounds self.now.haystack self.now.start self.now.end }
@@ -256,7 +252,7 @@ impl<'h> Input<'h> {
     }
 }
 
-/// An equal search of the haystack. A clone takes no memory, and always succeeds.
+/// An equal input. A clone allocates nothing, and always succeeds.
 impl Clone for Input<'_> {
     ghost is_clone = { λ input copy. copy ≡ input };
 
@@ -272,9 +268,8 @@ impl Clone for Input<'_> {
     }
 }
 
-/// A part of a haystack, in bytes: from `start` up to and not including `end`. A span may be written
-/// down whatever its numbers are; it is a valid span of a haystack where `start` is at most `end`
-/// and `end` at most the haystack's length.
+/// A part of a haystack, in bytes: from `start` up to `end`, which is not included. A span may have any numbers. It is
+/// a valid span of a haystack if `start` is at most `end`, and `end` at most the haystack's length.
 ///
 /// ```rust
 /// let span = Span { start: 5, end: 9 };
@@ -299,28 +294,28 @@ impl Span {
         self.start..self.end
     }
 
-    /// Whether no byte lies in the span, which is so too where `start` is beyond `end`.
+    /// Whether the span has no byte. It has none if `start` is after `end`, too.
     pub fn is_empty(&self) -> bool
         ensures { IsTrue result ↔ (self.now.end ≤ self.now.start) }
     {
         self.start >= self.end
     }
 
-    /// The number of bytes in the span, 0 where `start` is beyond `end`.
+    /// The number of bytes in the span, or 0 if `start` is after `end`.
     pub fn len(&self) -> usize
         ensures { result ≡ self.now.end - self.now.start }
     {
         self.end.saturating_sub(self.start)
     }
 
-    /// Whether the byte at this offset lies in the span. That at `end` does not.
+    /// Whether the byte at this offset is in the span. The byte at `end` is not.
     pub fn contains(&self, offset: usize) -> bool
         ensures { IsTrue result ↔ ((self.now.start ≤ offset) × (offset < self.now.end)) }
     {
         self.start <= offset && offset < self.end
     }
 
-    /// The span this many bytes further on. Neither sum may overflow.
+    /// The span moved by this many bytes. Neither sum may overflow.
     pub fn offset(&self, offset: usize) -> Span
         requires start { self.now.start + offset < 2 ^ 64 }
         requires end { self.now.end + offset < 2 ^ 64 }
@@ -339,7 +334,7 @@ impl Span {
         self.start == range.start && self.end == range.end
     }
 
-    /// The bytes of the span. It has to be a valid span of the slice.
+    /// The bytes of the span, which has to be a valid span of the slice.
     pub fn of<'a>(&self, bytes: &'a [u8]) -> &'a [u8]
         requires { IsValidSpan bytes.now self.now }
         ensures { result.now ≡ slice_range bytes.now self.now.start self.now.end }
@@ -347,10 +342,10 @@ impl Span {
         &bytes[self.start..self.end]
     }
 
-    /// The bytes of the span, lent in place to be written to: they lie in the slice's own memory,
-    /// `start` bytes after its beginning. It has to be a valid span of the slice. The slice ends as what
-    /// is written there, between the bytes before the span and those after it as they were. No generated
-    /// proof of a caller takes that up; one that needs it writes `&mut bytes[span.start..span.end]`.
+    /// The bytes of the span, lent in place for writing: they are in the slice's own memory, `start` bytes after its
+    /// beginning. The span has to be valid for the slice. Afterwards the slice has what was written there, and all
+    /// other bytes are unchanged. Generated proofs of callers do not use this; a caller that needs it writes `&mut
+    /// bytes[span.start..span.end]`.
     pub fn of_mut<'a>(&self, bytes: &'a mut [u8]) -> &'a mut [u8]
         requires { IsValidSpan bytes.old self.now }
         ensures* writes_back { sem 𝓛 (Lends (Array u8 0) (Array u8 0) bytes.entry result
@@ -361,8 +356,8 @@ impl Span {
         &mut bytes[self.start..self.end]
     }
 
-    /// The text of the span, whose offsets are in bytes. It has to be a valid span of the text, and
-    /// both ends have to lie between characters.
+    /// The text of the span, whose offsets are in bytes. The span has to be valid for the text, and both ends have to
+    /// be between characters.
     pub fn of_str<'a>(&self, text: &'a str) -> &'a str
         requires valid { IsValidSpan text.now self.now }
         requires start { IsCharBoundary text.now self.now.start }
@@ -373,7 +368,7 @@ impl Span {
     }
 }
 
-/// As `3..9`.
+/// Shown as `3..9`.
 impl fmt::Debug for Span {
     ghost debug_output = { λ span. Some (decimal span.start ++ codes ".." ++ decimal span.end) };
 
@@ -405,17 +400,17 @@ impl From<Span> for Range<usize> {
     }
 }
 
-/// Whether a match has to begin at the start of the search.
+/// Whether a search looks for matches only at its start.
 #[derive(Clone, Copy, Debug, PartialEq, Eq)]
 pub enum Anchored {
-    /// It may begin anywhere.
+    /// A match may begin anywhere.
     No,
-    /// It has to begin there.
+    /// A match has to begin at the start.
     Yes,
 }
 
 impl Anchored {
-    /// Whether a match has to begin at the start of the search.
+    /// Whether the search looks for matches only at its start.
     pub fn is_anchored(&self) -> bool
         ensures { IsTrue result ↔ (self.now ≡ Anchored.Yes) }
     {
@@ -423,8 +418,8 @@ impl Anchored {
     }
 }
 
-/// An occurrence of a pattern: which pattern, and the span that it takes, whose `start` is never
-/// beyond its `end`. Contracts see the identifier and the two offsets.
+/// An occurrence of a pattern: the pattern's identifier, and the span of the occurrence, whose `start` is at most its
+/// `end`. Contracts see the identifier and the two offsets.
 #[derive(Clone, Copy, Debug, PartialEq, Eq, Hash)]
 pub struct Match {
     pattern: PatternID,
@@ -453,8 +448,7 @@ impl Match {
         Match { pattern, span }
     }
 
-    /// The same of the pattern with this number, which has to be at most that of
-    /// [`PatternID::MAX`].
+    /// The same for the pattern with this number, which has to be at most [`PatternID::MAX`].
     pub fn must(pattern: usize, span: Span) -> Match
         requires pattern { pattern < PatternID.LIMIT }
         requires span { span.start ≤ span.end }
@@ -494,7 +488,7 @@ impl Match {
         self.span.range()
     }
 
-    /// The span that the occurrence takes.
+    /// The span of the occurrence.
     pub fn span(&self) -> Span
         ensures span { result ≡ record { start = self.now.start; end = self.now.end } }
         ensures ordered { self.now.start ≤ self.now.end }
@@ -502,22 +496,21 @@ impl Match {
         self.span
     }
 
-    /// Whether the occurrence takes no byte.
+    /// Whether the occurrence has no byte.
     pub fn is_empty(&self) -> bool
         ensures { IsTrue result ↔ (self.now.start ≡ self.now.end) }
     {
         self.span.is_empty()
     }
 
-    /// The number of bytes that the occurrence takes.
+    /// The number of bytes of the occurrence.
     pub fn len(&self) -> usize
         ensures len { self.now.start + result ≡ self.now.end }
     {
         self.span.len()
     }
 
-    /// The same pattern this many bytes further on. Neither sum may overflow, which is so where that
-    /// with the end does not.
+    /// The match moved by this many bytes. Neither sum may overflow; it is enough that the one with the end does not.
     pub fn offset(&self, offset: usize) -> Match
         requires { self.now.end + offset < 2 ^ 64 }
         ensures { result ≡ record self.now { start = self.now.start + offset; end = self.now.end + offset } }
@@ -529,15 +522,15 @@ impl Match {
     }
 }
 
-/// Which occurrences a search for several patterns answers.
+/// The occurrences that a search for several patterns answers with.
 #[derive(Clone, Copy, Debug, PartialEq, Eq)]
 pub enum MatchKind {
-    /// Each as soon as it is seen, whatever else begins at its place or before it.
+    /// Each occurrence as soon as it is seen, whatever else begins at the same offset or before it.
     Standard,
-    /// Of the occurrences that begin earliest, the one of the pattern that was added first.
+    /// Of the occurrences that begin first, the one of the pattern that was added first.
     LeftmostFirst,
-    /// Of the occurrences that begin earliest the longest, and among equal lengths that of the
-    /// pattern that was added first.
+    /// Of the occurrences that begin first, the longest, and of the longest the one of the pattern that was added
+    /// first.
     LeftmostLongest,
 }
 
@@ -552,7 +545,7 @@ impl Default for MatchKind {
     }
 }
 
-/// The match kind of a packed search is the one of the same name.
+/// The match kind with the same name as that of the packed search.
 impl From<PackedMatchKind> for MatchKind {
     ghost use Rattle.literal_base.specs.Kinds.{root_kind_of};
 
@@ -590,8 +583,7 @@ impl MatchKind {
         matches!(*self, MatchKind::LeftmostFirst)
     }
 
-    /// The match kind of a packed search that means the same. A packed search has none that means
-    /// [`MatchKind::Standard`].
+    /// The match kind of a packed search with the same meaning. A packed search has none for [`MatchKind::Standard`].
     pub fn as_packed(&self) -> Option<PackedMatchKind>
         ensures { result ≡ packed_kind_of self.now }
     {
@@ -603,14 +595,14 @@ impl MatchKind {
     }
 }
 
-/// Which searches a searcher is to be made for, by whether they are anchored.
+/// For which searches a searcher is made: anchored ones, others, or both.
 #[derive(Clone, Copy, Debug, PartialEq, Eq)]
 pub enum StartKind {
-    /// Those that are anchored and those that are not.
+    /// For anchored searches and others.
     Both,
-    /// Only those that are not anchored.
+    /// Only for searches that are not anchored.
     Unanchored,
-    /// Only those that are anchored.
+    /// Only for anchored searches.
     Anchored,
 }
 

@@ -13,7 +13,7 @@ use Rattle.literal_c.specs.declared.LiteralMatch.{LiteralMatch}
 use Rattle.literal_c.specs.declared.LiteralPage.{LiteralPage}
 use Rattle.literal_c.specs.declared.TheConstants.{LITERAL_NONE, LITERAL_OK}
 
--- a match of C as other contracts see one
+-- a match of C as other contracts see it
 abbrev pub match_of : LiteralMatch → MatchValue
 match_of found = record { pattern = found.pattern; start = found.start; end = found.end }
 
@@ -21,21 +21,21 @@ match_of found = record { pattern = found.pattern; start = found.start; end = fo
 abbrev pub match_for_c : MatchValue → LiteralMatch
 match_for_c found = record { pattern = found.pattern; start = found.start; end = found.end }
 
--- no match in the haystack from a place up to an end begins before a later place
+-- no match in the haystack between an offset and an end begins before `next`
 abbrev pub BeginsNone : Query → Bool → List ℕ → ℕ → ℕ → ℕ → Type 0
 BeginsNone query ignore_case haystack end at next =
     (at ≤ next) × ((i p : ℕ) → p < next → ¬ Occurs query.patterns ignore_case haystack (between at end) i p)
 
--- each match is the leftmost one of the haystack from behind the match before it up to an end, the first from a place
--- on; behind the last, or from that place on where there is none, no match begins before `next`
+-- each match is the leftmost one of the haystack after the previous match, up to an end; the first is the leftmost one
+-- from an offset on. After the last, or from that offset on if there is none, no match begins before `next`
 abbrev pub AreNext : Query → Bool → List ℕ → ℕ → ℕ → List MatchValue → ℕ → Type 0
 AreNext query ignore_case haystack end at [] next = BeginsNone query ignore_case haystack end at next
 AreNext query ignore_case haystack end at (found ∷ more) next =
     IsLeftmostMatch query ignore_case haystack (between at end) found
     × AreNext query ignore_case haystack end found.end more next
 
--- a page of the matches in a span: as many as it says are written, and the rest of the array stays as it was. Either
--- nothing occurs behind them, and it is the last page, or the array is full, and the next match begins at `next`
+-- a page of the matches in a span: `written` matches are written, and the rest of the array is unchanged. Either
+-- nothing occurs after them, and it is the last page, or the array is full, and the next match begins at `next`
 pub record IsPage (query : Query) (ignore_case : Bool) (haystack : List ℕ) (span : Span) (old new : List LiteralMatch)
     (page : LiteralPage) : Type 0 where
   pub len : length new ≡ length old
@@ -46,13 +46,13 @@ pub record IsPage (query : Query) (ignore_case : Bool) (haystack : List ℕ) (sp
       ⊎ ((page.is_last ≡ 0) × (page.written ≡ length new)
       × (i : ℕ) × Occurs query.patterns ignore_case haystack (between page.next span.end) i page.next)
 
--- a match lies in the span, is not empty, and names one of so many patterns
+-- a match lies in the span, is not empty, and its pattern number is below the number of patterns
 pub record MayBeFound (span : Span) (patterns : ℕ) (found : MatchValue) : Type 0 where
   pub lies : LiesIn span found
   pub pattern : found.pattern < patterns
 
--- what is known of a page by any array: its matches lie in the span and name one of so many patterns, the place from
--- which the next page goes on lies in the span too, and either it is the last page, or the array is full
+-- what holds of a page by any array: its matches lie in the span and name one of the patterns, the offset from which
+-- the next page continues is in the span, and it is the last page or the array is full
 pub record MayBePage (span : Span) (patterns : ℕ) (new : List LiteralMatch) (page : LiteralPage) : Type 0 where
   pub fits : page.written ≤ length new
   pub matches : All (λ found. MayBeFound span patterns (match_of found)) (take page.written new)
@@ -60,25 +60,25 @@ pub record MayBePage (span : Span) (patterns : ℕ) (new : List LiteralMatch) (p
   pub end : page.next ≤ span.end
   pub rest : (page.is_last ≡ 1) ⊎ ((page.is_last ≡ 0) × (page.written ≡ length new))
 
--- how many matches there are in a span, none of which overlaps another: the first is its leftmost match, each further
--- one that of the bytes behind the one before, and nothing occurs behind the last
+-- the number of matches in a span that do not overlap: the first is its leftmost match, each other one the leftmost
+-- match after the previous one, and nothing occurs after the last
 abbrev pub IsCount : Query → Bool → List ℕ → Span → ℕ → Type 0
 IsCount query ignore_case haystack span count =
     (all : List MatchValue) × (next : ℕ) × AreNext query ignore_case haystack span.end span.start all next
     × NothingOccurs query.patterns ignore_case haystack (between next span.end) × (count ≡ length all)
 
--- the answer of a search as C has it: `LITERAL_OK` and the match, or `LITERAL_NONE` and a match of zeros
+-- the answer of a search for C: `LITERAL_OK` and the match, or `LITERAL_NONE` and a match of zeros
 abbrev pub answer_for_c : Option MatchValue → LiteralAnswer
 answer_for_c None = record { status = LITERAL_NONE; found = record { pattern = 0; start = 0; end = 0 } }
 answer_for_c (Some found) = record { status = LITERAL_OK; found = match_for_c found }
 
--- the answer of a search of the whole haystack, as C has it
+-- the answer of a search of the whole haystack, for C
 abbrev pub IsAnswerForC : Query → Bool → List ℕ → LiteralAnswer → Type 0
 IsAnswerForC query ignore_case haystack answer =
     (found : Option MatchValue) × IsLeftmost query ignore_case haystack (whole_of haystack) found
     × (answer ≡ answer_for_c found)
 
--- the answer is a match that lies in the haystack and names one of so many patterns, or that nothing is found
+-- the answer is a match that lies in the haystack and names one of the patterns, or that nothing is found
 abbrev pub MayBeAnswer : ℕ → List ℕ → LiteralAnswer → Type 0
 MayBeAnswer patterns haystack answer =
     (found : Option MatchValue) × IfSome found (MayBeFound (whole_of haystack) patterns) × (answer ≡ answer_for_c found)

@@ -1,3 +1,5 @@
--- What private functions alone cite.
+-- Definitions that only private functions use.
 pub mod Given
+pub mod Info
 pub mod Refusal
+pub mod Resumed

@@ -1,5 +1,6 @@
 pub mod Answers
 pub mod Arguments
+pub mod Info
 pub mod Inside
 pub mod Overlapping
 pub mod Pieces

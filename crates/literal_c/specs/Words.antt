@@ -1,4 +1,4 @@
--- Whole words for C: what is searched for, pages of them, and how many there are.
+-- Whole words for C: the search for them, their pages, and their number.
 use Rattle.std.specs.Prelude.{◌≡◌, ◌⊎◌, ◌++◌, ℕ, ℤ, ◌≤◌, List, drop, length, map, take}
 use Rattle.literal_base.specs.Bytes.{contains}
 use Rattle.literal_base.specs.MatchValue.{MatchValue}
@@ -13,29 +13,29 @@ use Rattle.literal_c.specs.Arguments.{IsStatusOf, kind_of}
 use Rattle.literal_c.specs.declared.LiteralMatch.{LiteralMatch}
 use Rattle.literal_c.specs.declared.LiteralPage.{LiteralPage}
 
--- these are the patterns of a search as whole words, by the kind of a number, and by the ASCII word bytes
+-- the whole words by the patterns of a search, with the match kind of a number, and with the ASCII word bytes
 pub record AreAsciiWords (kind : ℕ) (search : SearchValue) (words : WholeWordsValue) : Type 0 where
   pub search_is : words.search ≡ search_by (kind_of kind) search.ignore_case search.query.patterns
   pub word_bytes : (b : ℕ) → contains words.word_bytes b ≡ is_ascii_word_byte b
 
--- what holds of the whole words, if an array is prepared for a search that takes the longest match
+-- a property holds of the whole words, if an array is prepared for a search that prefers the longest match
 abbrev pub ForAsciiWords : List ℕ → ℕ → (WholeWordsValue → Type 0) → Type 0
 ForAsciiWords array kind P = ForPrepared array (λ search. search.query.kind ≡ LeftmostLongest
     → (words : WholeWordsValue) × AreAsciiWords kind search words × P words)
 
--- what the status says of a call that searches for whole words by an array
+-- the status of a call that searches for whole words by an array
 abbrev pub IsWordStatusBy : List ℕ → Type 0 → (ℤ → Type 0) → ℤ → Type 0
 IsWordStatusBy array =
     IsStatusOf (HasAllParts array) (λ P. ForPrepared array (λ search. search.query.kind ≡ LeftmostLongest → P))
 
--- with whatever are the whole words of a span from a place on, these are the whole words of all of it
+-- followed by the whole words of the rest of a span from an offset on, these are the whole words of the span
 abbrev pub ContinueWords : WholeWordsValue → List ℕ → Span → List MatchValue → ℕ → Type 0
 ContinueWords words haystack span done next = (more : List MatchValue)
     → AreWholeWords words haystack (between next span.end) more → AreWholeWords words haystack span (done ++ more)
 
--- a page of the whole words in a span: as many as it says are written, those of the rest from `next` on follow them,
--- and the rest of the array stays as it was. Either there is none after them, and it is the last page, or the array is
--- full, and there is one
+-- a page of the whole words in a span: `written` words are written, followed by those of the rest from `next` on, and
+-- the rest of the array is unchanged. Either there is none after them, and it is the last page, or the array is full,
+-- and there is one
 pub record IsWordPage (words : WholeWordsValue) (haystack : List ℕ) (span : Span) (old new : List LiteralMatch)
     (page : LiteralPage) : Type 0 where
   pub len : length new ≡ length old
@@ -46,7 +46,7 @@ pub record IsWordPage (words : WholeWordsValue) (haystack : List ℕ) (span : Sp
       ⊎ ((page.is_last ≡ 0) × (page.written ≡ length new)
       × ¬ NothingAlone words haystack (between page.next span.end))
 
--- how many whole words there are in a span, none of which overlaps another
+-- the number of whole words in a span that do not overlap
 abbrev pub IsWordCount : WholeWordsValue → List ℕ → Span → ℕ → Type 0
 IsWordCount words haystack span count =
     (all : List MatchValue) × AreWholeWords words haystack span all × (count ≡ length all)

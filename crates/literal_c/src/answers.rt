@@ -1,4 +1,4 @@
-//! What is written for C.
+//! Answers in the form that C gets.
 ghost use Rattle.std.specs.Prelude.{◌≡◌, ◌+◌, ◌-◌, ◌≤◌, Bool, IfOk, OnOk, length};
 ghost use Rattle.std.specs.List.{AllZip};
 ghost use Rattle.std.specs.Result.{IsOkAnd};
@@ -15,7 +15,7 @@ use crate::pieces::Pieces;
 use crate::{LITERAL_NONE, LITERAL_OK, LiteralAnswer, LiteralMatch, LiteralPage};
 use literal_search::{Damaged, Match, Span};
 
-/// A match as C has it.
+/// A match for C.
 pub fn match_for_c(found: &Match) -> LiteralMatch
     ensures { result ≡ match_value found.now }
 {
@@ -26,7 +26,7 @@ pub fn match_for_c(found: &Match) -> LiteralMatch
     }
 }
 
-/// The answer of a search as C has it.
+/// The answer of a search for C.
 fn answer_for_c(found: Option<Match>) -> LiteralAnswer
     ensures { result ≡ answer_value found }
 {
@@ -46,8 +46,8 @@ fn answer_for_c(found: Option<Match>) -> LiteralAnswer
     }
 }
 
-/// Writes the matches of an iteration that begins at an offset, as many as there is room for, and says how many and
-/// what is left.
+/// Writes the matches of an iteration that begins at an offset, as many as there is room for, and returns how many
+/// these are and what is left.
 pub fn write_page<M: LeftmostMatches + Drop>(
     mut matches: M,
     start: usize,
@@ -81,8 +81,8 @@ pub fn write_page<M: LeftmostMatches + Drop>(
     Ok(page)
 }
 
-/// Writes what an iteration gives that begins at an offset, as much as there is room for, and says how much and what is
-/// left.
+/// Writes the occurrences of an iteration that begins at an offset, as many as there is room for, and returns how many
+/// these are and what is left.
 pub fn write_overlapping<M: Occurrences + Drop>(
     mut matches: M,
     start: usize,
@@ -111,7 +111,7 @@ pub fn write_overlapping<M: Occurrences + Drop>(
     Ok(page)
 }
 
-/// Answers for each haystack, of which there are as many as answers.
+/// Writes an answer for each haystack. There are as many answers as haystacks.
 pub fn answer_each<F: Finder>(
     search: &F,
     haystacks: Pieces<'_, '_>,
@@ -131,7 +131,7 @@ pub fn answer_each<F: Finder>(
     Ok(())
 }
 
-/// How many matches an iteration gives.
+/// The number of matches that an iteration gives.
 pub fn count_matches<M: LeftmostMatches + Drop>(mut matches: M) -> Result<usize, Damaged>
     ensures count { (search : SearchValue) → M.is_for matches search → IsOkAnd result
         (IsCount search.query search.ignore_case (M.rest matches).haystack (M.rest matches).span) }

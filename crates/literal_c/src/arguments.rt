@@ -1,4 +1,4 @@
-//! What C asks for: a kind of match by its number, and patterns.
+//! The arguments of C: a match kind by its number, and patterns.
 ghost use Rattle.std.specs.Prelude.{◌≡◌, ◌↔◌, IsTrue, MatchOption, MatchResult, length};
 ghost use Rattle.literal_search.specs.SearchValue.{CanBeKept, NeedTooManyStates};
 ghost use Rattle.literal_c.specs.Arguments.{Agree, IsKind, NeedTooMany, argument_search, kind_of};
@@ -17,18 +17,18 @@ use std::alloc::Global;
 /// Why there is no search.
 #[derive(Clone, Copy)]
 pub enum Refusal {
-    /// The arguments contradict each other.
+    /// The arguments are not valid.
     BadArguments,
     /// The patterns can't be searched for.
     NoSearcher,
     /// A request for memory was refused.
     OutOfMemory,
-    /// The table of the search would be too large.
+    /// The table of the search is too large.
     TooLarge,
 }
 
 impl Refusal {
-    /// The status that stands for it.
+    /// The status of this error.
     pub fn status(self) -> i32
         ensures { result ≡ status_of self }
     {
@@ -41,7 +41,7 @@ impl Refusal {
     }
 }
 
-/// The kind of match that a number stands for, and `None` where it stands for none.
+/// The match kind with this number, or `None` if there is none.
 pub fn match_kind(number: u32) -> Option<MatchKind>
     ensures { MatchOption result (¬ IsKind number) (λ kind. IsKind number × (kind ≡ kind_of number)) }
 {
@@ -52,7 +52,7 @@ pub fn match_kind(number: u32) -> Option<MatchKind>
     }
 }
 
-/// The search that C asks for, or why there is none. Memory is asked for only where the patterns can be searched for.
+/// The search that C asks for, or the error. Memory is requested only if the patterns can be searched for.
 pub fn search_for(
     alloc: Global,
     kind: u32,
@@ -82,7 +82,7 @@ pub fn search_for(
     }
 }
 
-/// The same of a search for everything that occurs, which takes no kind.
+/// The same for a search for every occurrence, which has no match kind.
 pub fn search_for_all(
     alloc: Global,
     ignore_case: bool,

@@ -1,4 +1,4 @@
-//! What the calls for C search by: a search of their own, or numbers that C lends.
+//! The searches of the calls for C: a search of their own, or numbers that C lends.
 ghost use Rattle.std.specs.Prelude.{◌≡◌};
 
 use literal_search::{
@@ -6,7 +6,7 @@ use literal_search::{
     PreparedOverlappingMatches, Search, Span,
 };
 
-/// A search, which may be by damaged numbers.
+/// A search, by numbers that may be damaged.
 pub trait Finder {
     ghost use Rattle.std.specs.Prelude.{Bool, IfOk, IfSome};
     ghost use Rattle.std.specs.Result.{IsOkAnd};
@@ -16,10 +16,10 @@ pub trait Finder {
     ghost use Rattle.literal_c.specs.Answers.{MayBeFound};
     ghost use Rattle.std.specs.Prelude.{ℕ};
 
-    /// What it searches for, if it is whole.
+    /// The query, if the search is whole.
     ghost is_for: { Self → Query → Bool → Type 0 };
 
-    /// How many patterns it has, whatever the numbers are.
+    /// The number of patterns, for any numbers.
     ghost patterns: { Self → ℕ };
 
     /// The leftmost match in a span of the haystack.
@@ -58,7 +58,7 @@ impl Finder for Prepared<'_> {
     }
 }
 
-/// An iteration over all leftmost matches in a span, one after another, which may be by damaged numbers.
+/// An iteration over all leftmost matches in a span, by numbers that may be damaged.
 pub trait LeftmostMatches {
     ghost use Rattle.std.specs.Prelude.{◌≡◌, IfOk, IfSome};
     ghost use Rattle.std.specs.Result.{IsOkAnd};
@@ -67,13 +67,13 @@ pub trait LeftmostMatches {
     ghost use Rattle.literal_c.specs.Answers.{MayBeFound};
     ghost use Rattle.literal_c.specs.Inside.Given.{Rest, behind};
 
-    /// What it searches for, if it is whole.
+    /// The query, if the search is whole.
     ghost is_for: { Self → SearchValue → Type 0 };
 
-    /// What is left, whatever the numbers are.
+    /// The rest of the iteration, for any numbers.
     ghost rest: { Self → Rest };
 
-    /// The leftmost match in the span that is left.
+    /// The leftmost match in the rest of the span.
     fn next_match(&mut self) -> Result<Option<Match>, Damaged>
         ensures found { (search : SearchValue) → is_for self.old search → IsOkAnd result
             (IsLeftmost search.query search.ignore_case (rest self.old).haystack (rest self.old).span) }
@@ -121,7 +121,7 @@ impl LeftmostMatches for PreparedMatches<'_, '_, '_> {
     }
 }
 
-/// An iteration over everything that occurs, which may be by damaged numbers.
+/// An iteration over every occurrence, by numbers that may be damaged.
 pub trait Occurrences {
     ghost use Rattle.std.specs.Prelude.{IfOk, IfSome};
     ghost use Rattle.std.specs.Result.{IsOkAnd};
@@ -129,10 +129,10 @@ pub trait Occurrences {
     ghost use Rattle.literal_search.specs.OverlappingMatchesValue.{GivesOverlapping, OverlappingMatchesValue};
     ghost use Rattle.literal_search.specs.OverlappingMatchesValue.{gone_on};
 
-    /// Where it stands, if it is whole.
+    /// The position of the iteration, if the search is whole.
     ghost stands_at: { Self → OverlappingMatchesValue → Type 0 };
 
-    /// What it may give, whatever the numbers are.
+    /// The matches that it may give, for any numbers.
     ghost may_give: { Self → MatchValue → Type 0 };
 
     /// The next occurrence.

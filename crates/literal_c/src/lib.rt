@@ -1,15 +1,17 @@
 //! Searches for several literals at once, for callers in C. The header for C is `bindings/c/literal_search.h`.
 //!
-//! Bytes cross as a pointer and a length. A list of byte strings crosses as one buffer and where each of its pieces
-//! ends: piece i is the bytes from `ends[i - 1]`, for the first from 0, up to and not including `ends[i]`. Each call
-//! answers a status, and keeps nothing when it returns. It builds its search anew, except for those whose names end in
-//! `_in`, which search by an array that [`literal_prepare`] or [`literal_prepare_overlapping`] filled.
+//! Bytes are passed as a pointer and a length. A list of byte strings is passed as one buffer and the offsets at which
+//! its pieces end: piece i has the bytes from `ends[i - 1]`, or from 0 for the first, up to `ends[i]`, which is not
+//! included. Each call but [`literal_version`] returns a status, and none keeps anything when it returns. A call with
+//! patterns builds its search anew. The calls whose names end in `_in` search by an array from [`literal_prepare`] or
+//! [`literal_prepare_overlapping`].
 #![tactic(auto)]
 
-ghost use Rattle.std.specs.Prelude.{◌≡◌, ◌⊎◌, ◌↔◌, ◌+◌, ◌-◌, ◌≤◌, length, slice_index};
+ghost use Rattle.std.specs.Prelude.{◌≡◌, ◌⊎◌, ◌↔◌, ◌+◌, ◌-◌, ◌<◌, ◌≤◌, length, slice_index};
 ghost use Rattle.std.specs.List.{AllZip};
 ghost use Rattle.literal_base.specs.Leftmost.{IsLeftmostMatch};
 ghost use Rattle.literal_base.specs.Occurs.{IsValidSpan, NothingOccurs, between, rest_from};
+ghost use Rattle.literal_folding.specs.Folding.{folded};
 ghost use Rattle.literal_search.specs.SearchValue.{CanBeKept, NeedTooManyStates};
 ghost use Rattle.literal_search.specs.Prepared.{ForPrepared, IsWhole, RefusesToPrepare};
 ghost use Rattle.literal_search.specs.Prepared.{WritesPrepared};
@@ -28,10 +30,15 @@ ghost use Rattle.literal_search.specs.WholeWords.{IsLeftmostAlone, NothingAlone}
 mod answers;
 mod arguments;
 mod finder;
+mod info;
 pub mod laws;
+#[cfg(test)]
+mod occurrence_tests;
+mod occurrences;
 mod pieces;
 #[cfg(test)]
 mod prepared_tests;
+mod resumed;
 mod so_far;
 #[cfg(test)]
 mod tests;
@@ -41,7 +48,12 @@ mod words;
 
 use answers::{answer_each, count_matches, match_for_c, write_overlapping, write_page};
 use arguments::{can_be_searched, match_kind, search_for, search_for_all};
+pub use info::{LiteralInfo, literal_prepared_info};
+use literal_folding::fold_in_place;
 use literal_search::{Damaged, Prepared, PreparedOverlapping, Span};
+pub use occurrences::{
+    literal_count_overlapping, literal_count_overlapping_in, literal_find_overlapping_from_in,
+};
 use pieces::{Pieces, are_ends};
 use so_far::{find_so_far, tell_so_far};
 use std::alloc::Global;
@@ -50,7 +62,7 @@ use words::{count_words, words_in, write_words};
 /// The version of this library as a number, 1,000,000 * major + 1,000 * minor + patch: 1000 for 0.1.0.
 pub const LITERAL_VERSION_NUMBER: u32 = 1000;
 
-/// Status: what was asked for is done.
+/// Status: the call has done what it was asked for.
 pub const LITERAL_OK: i32 = 0;
 /// Status: no pattern occurs.
 pub const LITERAL_NONE: i32 = 1;
@@ -58,21 +70,21 @@ pub const LITERAL_NONE: i32 = 1;
 pub const LITERAL_NO_SEARCHER: i32 = 2;
 /// Status: a request for memory was refused.
 pub const LITERAL_OUT_OF_MEMORY: i32 = 3;
-/// Status: the arguments contradict each other.
+/// Status: the arguments are not valid.
 pub const LITERAL_BAD_ARGUMENTS: i32 = 4;
-/// Status: the table of the search would have 2^31 places or more.
+/// Status: the table of the search would have 2^31 entries or more.
 pub const LITERAL_TOO_LARGE: i32 = 5;
-/// Status: the array that was lent is shorter than it has to be.
+/// Status: the lent array is too short.
 pub const LITERAL_TOO_SHORT: i32 = 6;
-/// Status: the array that was lent is not as [`literal_prepare`] wrote it.
+/// Status: the lent array is not as [`literal_prepare`] wrote it.
 pub const LITERAL_DAMAGED: i32 = 7;
 
-/// Kind of match: of the patterns that match at one place, the one that stands first in the list.
+/// Match kind: of the patterns that match at one offset, the first in the list.
 pub const LITERAL_LEFTMOST_FIRST: u32 = 0;
-/// Kind of match: the longest of them, and of several equally long ones the one that stands first in the list.
+/// Match kind: the longest of these patterns, and of several longest ones the first in the list.
 pub const LITERAL_LEFTMOST_LONGEST: u32 = 1;
 
-/// A match: the number of its pattern, the offset of its first byte, and the offset behind its last byte.
+/// A match: the number of its pattern, the offset of its first byte, and the offset after its last byte.
 #[repr(C)]
 #[derive(Clone, Copy)]
 pub struct LiteralMatch {
@@ -81,8 +93,8 @@ pub struct LiteralMatch {
     pub end: usize,
 }
 
-/// How many matches were written, the offset from which the search goes on, and 1 if nothing occurs from there on, or
-/// else 0: then the next match begins there.
+/// The number of matches written, the offset from which the search continues, and 1 if nothing occurs from there on.
+/// Otherwise this is 0, and the next match begins at that offset.
 #[repr(C)]
 #[derive(Clone, Copy)]
 pub struct LiteralPage {
@@ -99,7 +111,7 @@ pub struct LiteralAnswer {
     pub found: LiteralMatch,
 }
 
-/// The version of this library, for callers that were compiled with the header of another one.
+/// Returns the version of this library, for callers that were compiled with another header.
 #[unsafe(no_mangle)]
 pub extern "C" fn literal_version() -> u32
     ensures { result ≡ LITERAL_VERSION_NUMBER }
@@ -107,8 +119,20 @@ pub extern "C" fn literal_version() -> u32
     LITERAL_VERSION_NUMBER
 }
 
-/// Whether the patterns can be searched for, by either kind, with case kept or ignored: [`LITERAL_OK`] or
-/// [`LITERAL_NO_SEARCHER`]. It is [`LITERAL_BAD_ARGUMENTS`] where the ends fall or pass the buffer.
+/// Replaces each whole character of a text in UTF-8 by its simple case folding, if that has as many bytes. All other
+/// bytes, and so all offsets, stay the same. A search for folded patterns in a folded text ignores Unicode's case.
+/// Returns [`LITERAL_OK`].
+#[unsafe(no_mangle)]
+pub extern "C" fn literal_fold(text: &mut [u8]) -> i32
+    ensures ok { result ≡ LITERAL_OK }
+    ensures folded { text.new ≡ folded text.old }
+{
+    fold_in_place(text);
+    LITERAL_OK
+}
+
+/// Returns whether the patterns can be searched for, with either match kind, and with case kept or ignored:
+/// [`LITERAL_OK`] or [`LITERAL_NO_SEARCHER`]. Or [`LITERAL_BAD_ARGUMENTS`], if the ends decrease or exceed the buffer.
 #[unsafe(no_mangle)]
 pub extern "C" fn literal_can_search(patterns: &[u8], ends: &[usize]) -> i32
     ensures bad_arguments { (result ≡ LITERAL_BAD_ARGUMENTS) ↔ ¬ AreEnds (length patterns.now) 0 ends.now }
@@ -126,12 +150,13 @@ pub extern "C" fn literal_can_search(patterns: &[u8], ends: &[usize]) -> i32
     }
 }
 
-/// The leftmost match in the bytes of the haystack from `start` up to and not including `end`: with [`LITERAL_OK`] it
-/// is in `found`, and [`LITERAL_NONE`] says that no pattern occurs there. A match lies whole in these bytes, and its
-/// offsets are in the whole haystack. [`LITERAL_BAD_ARGUMENTS`] comes where the kind is none, the ends fall or pass the
-/// buffer, `start` is above `end`, or `end` above the haystack's length; else [`LITERAL_NO_SEARCHER`] where the
-/// patterns can't be searched for. [`LITERAL_OUT_OF_MEMORY`] and [`LITERAL_TOO_LARGE`] come only where they can be.
-/// After any status but [`LITERAL_OK`] what was lent is as it was.
+/// Finds the leftmost match in the bytes of the haystack from `start` up to `end`, which is not included. With
+/// [`LITERAL_OK`] the match is in `found`; [`LITERAL_NONE`] says that no pattern occurs there. A match lies whole in
+/// these bytes, and its offsets are in the whole haystack. The status is [`LITERAL_BAD_ARGUMENTS`] if there is no such
+/// match kind, if the ends decrease or exceed the buffer, if `start` is above `end`, or if `end` is above the
+/// haystack's length; otherwise it is [`LITERAL_NO_SEARCHER`] if the patterns can't be searched for.
+/// [`LITERAL_OUT_OF_MEMORY`] and [`LITERAL_TOO_LARGE`] come only if they can be. Unless the status is [`LITERAL_OK`],
+/// lent memory is unchanged.
 ///
 /// ```rust
 /// let status = literal_find(alloc, kind, false, WORDS, &ENDS, TEXT, 14, 51, &mut found);
@@ -173,15 +198,15 @@ pub extern "C" fn literal_find(
     }
 }
 
-/// All matches in the haystack from an offset on, as many as there is room for: first the leftmost match of the bytes
-/// from there on, and after each match the leftmost one of the bytes behind it. The page says how many were written,
-/// from which offset the next call goes on, and whether nothing is left. The rest of the array stays as it was. With
-/// patterns of at most 1,024 bytes a call looks up at most three times the bytes from that offset on. With a longer
-/// pattern it looks up at most eleven times these bytes, and, for each match that it finds, 108 more than 18 times that
-/// pattern's length.
-/// [`LITERAL_BAD_ARGUMENTS`] comes where the kind is none, the ends fall or pass the buffer, or the offset is above
-/// the haystack's length; else [`LITERAL_NO_SEARCHER`] where the patterns can't be searched for. After any status but
-/// [`LITERAL_OK`] what was lent is as it was.
+/// Finds all matches in the haystack from an offset on that do not overlap, as many as there is room for: first the
+/// leftmost match from there on, then each time the leftmost match after the end of the previous one. The page says how
+/// many were written, where the next call continues, and whether nothing is left. The rest of the array is unchanged.
+/// With patterns of at most 1,024 bytes, a call looks up at most three times the bytes from that offset on. With a
+/// longer pattern, it looks up at most eleven times these bytes, plus, for each match that it finds, 18 times that
+/// pattern's length plus 108. The status is [`LITERAL_BAD_ARGUMENTS`] if there is no such match kind, if the ends
+/// decrease or exceed the buffer, if the offset is above the haystack's length, or if there is no room for a match;
+/// else it is [`LITERAL_NO_SEARCHER`] if the patterns can't be searched for. Unless the status is [`LITERAL_OK`], lent
+/// memory is unchanged.
 #[unsafe(no_mangle)]
 pub extern "C" fn literal_find_all(
     alloc: Global,
@@ -194,7 +219,7 @@ pub extern "C" fn literal_find_all(
     found: &mut [LiteralMatch],
     page: &mut LiteralPage,
 ) -> i32
-    ensures status { IsStatus (Agree kind patterns.now ends.now × (from ≤ length haystack.now))
+    ensures status { IsStatus (Agree kind patterns.now ends.now × (from ≤ length haystack.now) × (0 < length found.old))
         (pieces patterns.now 0 ends.now) (NeedTooMany ignore_case patterns.now ends.now) result }
     ensures page { result ≡ LITERAL_OK → IsPage (argument_query kind patterns.now ends.now) ignore_case haystack.now
         (rest_from haystack.now from) found.old found.new page.new }
@@ -202,7 +227,7 @@ pub extern "C" fn literal_find_all(
     ensures not_none { ¬ (result ≡ LITERAL_NONE) }
 {
     let end = haystack.len();
-    if from > end {
+    if from > end || found.is_empty() {
         return LITERAL_BAD_ARGUMENTS;
     }
     match search_for(alloc, kind, ignore_case, patterns, ends) {
@@ -220,11 +245,12 @@ pub extern "C" fn literal_find_all(
     }
 }
 
-/// Every occurrence of every pattern in the bytes of the haystack from `start` up to and not including `end`, those
-/// that overlap others too, in the order of ends and, at one end, of numbers, as many as there is room for. The page
-/// says how many were written, the end of the last of them, or `start`, and whether there are no more. The rest of the
-/// array stays as it was. The statuses are those of [`literal_find`], but [`LITERAL_NONE`]. After any status but
-/// [`LITERAL_OK`] what was lent is as it was.
+/// Finds every occurrence in the bytes of the haystack from `start` up to `end`, which is not included, also those that
+/// overlap others, as many as there is room for. They are in the order of their ends and, at one end, of the pattern
+/// numbers. The page says how many were written, the end of the last one, or `start` if there is none, and whether
+/// there are no more. The rest of the array is unchanged. The statuses are those of [`literal_find`], except
+/// [`LITERAL_NONE`]; without room for an occurrence it is [`LITERAL_BAD_ARGUMENTS`] too. Unless the status is
+/// [`LITERAL_OK`], lent memory is unchanged.
 #[unsafe(no_mangle)]
 pub extern "C" fn literal_find_overlapping(
     alloc: Global,
@@ -237,7 +263,8 @@ pub extern "C" fn literal_find_overlapping(
     found: &mut [LiteralMatch],
     page: &mut LiteralPage,
 ) -> i32
-    ensures status { IsStatus (AreEnds (length patterns.now) 0 ends.now × IsValidSpan haystack.now (between start end))
+    ensures status { IsStatus (AreEnds (length patterns.now) 0 ends.now × IsValidSpan haystack.now (between start end)
+        × (0 < length found.old))
         (pieces patterns.now 0 ends.now)
         (NeedTooManyStates ignore_case (pieces patterns.now 0 ends.now)) result }
     ensures page { result ≡ LITERAL_OK → IsOverlappingPage
@@ -246,7 +273,7 @@ pub extern "C" fn literal_find_overlapping(
     ensures as_before { (result ≡ LITERAL_OK) ⊎ ((found.new ≡ found.old) × (page.new ≡ page.old)) }
     ensures not_none { ¬ (result ≡ LITERAL_NONE) }
 {
-    if start > end || end > haystack.len() {
+    if start > end || end > haystack.len() || found.is_empty() {
         return LITERAL_BAD_ARGUMENTS;
     }
     match search_for_all(alloc, ignore_case, patterns, ends) {
@@ -264,10 +291,11 @@ pub extern "C" fn literal_find_overlapping(
     }
 }
 
-/// The leftmost match of each of many haystacks, which lie in one buffer, with offsets from the beginning of that
-/// haystack. [`LITERAL_BAD_ARGUMENTS`] comes where the kind is none, the ends of patterns or haystacks fall or pass
-/// their buffer, or there are not as many answers as haystacks; else [`LITERAL_NO_SEARCHER`] where the patterns can't
-/// be searched for. After any status but [`LITERAL_OK`] what was lent is as it was.
+/// Finds the leftmost match of each of many haystacks in one buffer, with offsets from the beginning of that haystack.
+/// The status is [`LITERAL_BAD_ARGUMENTS`] if there is no such match kind, if the ends of patterns or haystacks
+/// decrease or exceed their buffer, or if there are not as many answers as haystacks; else it is
+/// [`LITERAL_NO_SEARCHER`] if the patterns can't be searched for. Unless the status is [`LITERAL_OK`], lent memory is
+/// unchanged.
 #[unsafe(no_mangle)]
 pub extern "C" fn literal_find_each(
     alloc: Global,
@@ -300,11 +328,11 @@ pub extern "C" fn literal_find_each(
     }
 }
 
-/// Writes a search for the patterns into the first places of an array, by which the calls whose names end in `_in`
-/// search as often as they are asked to. `needed` says how many places these are: for each byte of the patterns at most
-/// two more than they have different bytes, two for each pattern, and some hundreds. With [`LITERAL_TOO_SHORT`] it says
-/// so too, and the array is too short. The other statuses come as from [`literal_find`]. After any status but
-/// [`LITERAL_OK`] the array is as it was, and `needed` too, except after [`LITERAL_TOO_SHORT`].
+/// Writes a search for the patterns into the first entries of an array. The calls whose names end in `_in` search by
+/// it, as often as they are called. `needed` says how many entries these are: for each byte of the patterns, at most
+/// two more than the number of distinct bytes, one for each pattern, and some hundreds. With [`LITERAL_TOO_SHORT`],
+/// `needed` says so too, and the array is too short. The other statuses are those of [`literal_find`]. After any status
+/// but [`LITERAL_OK`] the array is unchanged, and so is `needed`, except after [`LITERAL_TOO_SHORT`].
 #[unsafe(no_mangle)]
 pub extern "C" fn literal_prepare(
     alloc: Global,
@@ -342,9 +370,9 @@ pub extern "C" fn literal_prepare(
     }
 }
 
-/// The same for everything that occurs: a search by which [`literal_find_overlapping_in`] searches. The statuses come
-/// as from [`literal_prepare`], and [`LITERAL_OUT_OF_MEMORY`] also where the lists of the patterns that are a suffix of
-/// another have 2^32 numbers or more. The array also lists, for each pattern, the patterns that are a suffix of it.
+/// The same for every occurrence: a search for [`literal_find_overlapping_in`]. The array also lists, for each pattern,
+/// the patterns that are suffixes of it. The statuses are those of [`literal_prepare`]; [`LITERAL_OUT_OF_MEMORY`] comes
+/// also if these lists have 2^32 numbers or more.
 #[unsafe(no_mangle)]
 pub extern "C" fn literal_prepare_overlapping(
     alloc: Global,
@@ -382,9 +410,9 @@ pub extern "C" fn literal_prepare_overlapping(
     }
 }
 
-/// Whether an array begins with a whole search: [`LITERAL_OK`], as for each that [`literal_prepare`] wrote, or
-/// [`LITERAL_DAMAGED`]. It goes over all numbers of the search, and finds each change of one of them that does not say
-/// how many there are, and most others.
+/// Returns whether an array begins with a whole search: [`LITERAL_OK`], as for each that [`literal_prepare`] wrote, or
+/// [`LITERAL_DAMAGED`]. It reads all numbers of the search. It finds each change of one number, unless that number says
+/// how many there are, and most other changes.
 #[unsafe(no_mangle)]
 pub extern "C" fn literal_check_prepared(prepared: &[u32]) -> i32
     ensures ok { (result ≡ LITERAL_OK) ↔ IsWhole prepared.now }
@@ -410,11 +438,11 @@ pub extern "C" fn literal_check_overlapping(prepared: &[u32]) -> i32
     }
 }
 
-/// Answers as [`literal_find`], by a search that [`literal_prepare`] wrote. [`LITERAL_BAD_ARGUMENTS`] comes where
-/// `start` is above `end`, or `end` above the haystack's length, else [`LITERAL_DAMAGED`] where the array has not the
-/// parts of a search. Of an array that was changed otherwise it may say [`LITERAL_DAMAGED`], or find another match or
-/// none; a match lies in the bytes that were searched, and names one of the patterns, of which the array's fourth
-/// number says how many there are. After any status but [`LITERAL_OK`] what was lent is as it was.
+/// Like [`literal_find`], by a search that [`literal_prepare`] wrote. The status is [`LITERAL_BAD_ARGUMENTS`] if
+/// `start` is above `end`, or `end` above the haystack's length; otherwise it is [`LITERAL_DAMAGED`] if the array does
+/// not have the parts of a search. With an array that was changed otherwise, the status may be [`LITERAL_DAMAGED`], or
+/// another match or none may be found. But a match lies in the searched bytes, and names one of the patterns; the
+/// array's fourth number is their number. Unless the status is [`LITERAL_OK`], lent memory is unchanged.
 #[unsafe(no_mangle)]
 pub extern "C" fn literal_find_in(
     prepared: &[u32],
@@ -449,15 +477,15 @@ pub extern "C" fn literal_find_in(
     }
 }
 
-/// The leftmost match from `start` on in a text that comes in pieces, by a search that [`literal_prepare`] wrote. The
-/// haystack is what is held of the text; `more` says whether anything may follow. [`LITERAL_OK`] says that the match in
-/// `found` is the one, whatever follows, and `next` is its end. [`LITERAL_NONE`] says that none begins before `next`,
-/// whatever follows: nobody needs the bytes before that any more, and a search goes on from there once more bytes have
-/// come, or that there are no more. With `more` a match is told once the longest pattern would fit in between its start
-/// and the end of the haystack, and `next` is before that end by one byte less than that pattern has, or `start` if
-/// that is behind; without, it is the end. [`LITERAL_BAD_ARGUMENTS`] comes where `start` is above the haystack's
-/// length, and [`LITERAL_DAMAGED`] as from [`literal_find_in`], with which is known of any array the same. After any
-/// status but these two what was lent is as it was, and after [`LITERAL_NONE`] `found` too.
+/// Finds the leftmost match from `start` on in a text that comes in pieces, by a search that [`literal_prepare`] wrote.
+/// The haystack is the held part of the text; `more` says whether anything may follow. [`LITERAL_OK`] says that `found`
+/// is the match, whatever follows, and `next` is its end. [`LITERAL_NONE`] says that no match begins before `next`,
+/// whatever follows: the bytes before it are no longer needed, and a search continues from there once more bytes have
+/// come, or the text has ended. With `more`, a match is found once the longest pattern would fit between its start and
+/// the end of the haystack; and `next` is before that end by one byte less than the longest pattern has, but at least
+/// `start`. Without `more`, `next` is that end. The status is [`LITERAL_BAD_ARGUMENTS`] if `start` is above the
+/// haystack's length, and [`LITERAL_DAMAGED`] as for [`literal_find_in`], which also says what holds for any array.
+/// After any status but these two the lent memory is unchanged, and after [`LITERAL_NONE`] so is `found`.
 #[unsafe(no_mangle)]
 pub extern "C" fn literal_find_so_far_in(
     prepared: &[u32],
@@ -486,12 +514,12 @@ pub extern "C" fn literal_find_so_far_in(
     }
 }
 
-/// Answers as [`literal_find_all`], by a search that [`literal_prepare`] wrote, of the bytes of the haystack from
-/// `start` up to and not including `end`. [`LITERAL_BAD_ARGUMENTS`] and [`LITERAL_DAMAGED`] come as from
-/// [`literal_find_in`]. After any status but [`LITERAL_OK`] the page is as it was, and after [`LITERAL_BAD_ARGUMENTS`]
-/// the array of matches too; of a damaged search it may hold some matches. Whatever the array holds, a page is the last
-/// or full, and the next goes on at least one byte further for each match; and if it says that no pattern has more than
-/// 1,024 bytes, a call looks up at most three times as many bytes as it was asked to search.
+/// Like [`literal_find_all`], by a search that [`literal_prepare`] wrote, in the bytes of the haystack from `start` up
+/// to `end`, which is not included. [`LITERAL_BAD_ARGUMENTS`] and [`LITERAL_DAMAGED`] come as from [`literal_find_in`],
+/// and the first also without room for a match. After any status but [`LITERAL_OK`] the page is unchanged, and after
+/// [`LITERAL_BAD_ARGUMENTS`] the array of matches too; with a damaged search some matches may be written. With any
+/// array, a page is the last one or full, and the next page begins at least one byte later for each match. If the array
+/// says that no pattern has more than 1,024 bytes, a call looks up at most three times the bytes that it searches.
 #[unsafe(no_mangle)]
 pub extern "C" fn literal_find_all_in(
     prepared: &[u32],
@@ -501,7 +529,7 @@ pub extern "C" fn literal_find_all_in(
     found: &mut [LiteralMatch],
     page: &mut LiteralPage,
 ) -> i32
-    ensures status { IsStatusBy prepared.now (IsValidSpan haystack.now (between start end))
+    ensures status { IsStatusBy prepared.now (IsValidSpan haystack.now (between start end) × (0 < length found.old))
         (λ status. status ≡ LITERAL_OK) result }
     ensures page { ForPrepared prepared.now (λ search. result ≡ LITERAL_OK
         → IsPage search.query search.ignore_case haystack.now (between start end) found.old found.new page.new) }
@@ -511,7 +539,7 @@ pub extern "C" fn literal_find_all_in(
     ensures as_before { (result ≡ LITERAL_OK) ⊎ (page.new ≡ page.old) }
     ensures refused { result ≡ LITERAL_BAD_ARGUMENTS → found.new ≡ found.old }
 {
-    if start > end || end > haystack.len() {
+    if start > end || end > haystack.len() || found.is_empty() {
         return LITERAL_BAD_ARGUMENTS;
     }
     let Ok(search) = Prepared::new(prepared) else {
@@ -527,9 +555,9 @@ pub extern "C" fn literal_find_all_in(
     }
 }
 
-/// Answers as [`literal_find_each`], by a search that [`literal_prepare`] wrote. [`LITERAL_BAD_ARGUMENTS`] comes where
-/// the ends of haystacks fall or pass their buffer, or there are not as many answers as haystacks; then the answers are
-/// as they were. With [`LITERAL_DAMAGED`] some of them may be written.
+/// Like [`literal_find_each`], by a search that [`literal_prepare`] wrote. The status is [`LITERAL_BAD_ARGUMENTS`] if
+/// the ends of haystacks decrease or exceed their buffer, or if the number of answers is not that of haystacks; then
+/// the answers are unchanged. With [`LITERAL_DAMAGED`] some of them may be written.
 #[unsafe(no_mangle)]
 pub extern "C" fn literal_find_each_in(
     prepared: &[u32],
@@ -558,9 +586,9 @@ pub extern "C" fn literal_find_each_in(
     }
 }
 
-/// How many matches [`literal_find_all_in`] finds, on one page after another: at most as many as there are bytes to
-/// search. It looks up no more bytes than one long page. The statuses are the same, and after any but [`LITERAL_OK`]
-/// the count is as it was.
+/// Counts the matches that [`literal_find_all_in`] finds, page after page: at most as many as there are bytes to
+/// search. It looks up at most as many bytes as one long page. The statuses are the same. Unless the status is
+/// [`LITERAL_OK`], the count is unchanged.
 #[unsafe(no_mangle)]
 pub extern "C" fn literal_count_in(
     prepared: &[u32],
@@ -592,11 +620,11 @@ pub extern "C" fn literal_count_in(
     }
 }
 
-/// The leftmost whole word in the bytes of the haystack from `start` up to and not including `end`: a pattern with no
-/// ASCII letter, digit or underscore right before it, and none right after it. The bytes next to these of the haystack
-/// count too. Of the whole words that begin at one offset it is the one that `kind` prefers. [`literal_prepare`] has to
-/// have written the array with [`LITERAL_LEFTMOST_LONGEST`], whatever `kind` is; of an array of the other kind no more
-/// is known than of one that was changed. [`LITERAL_BAD_ARGUMENTS`] comes also where `kind` is none; the rest is as of
+/// Finds the leftmost whole word in the bytes of the haystack from `start` up to `end`, which is not included: a
+/// pattern with no ASCII letter, digit or underscore right before it or right after it. The bytes of the haystack next
+/// to these bytes count too. If several whole words begin at one offset, `kind` decides. [`literal_prepare`] has to
+/// have written the array with [`LITERAL_LEFTMOST_LONGEST`], for either `kind`; an array of the other kind is like one
+/// that was changed. [`LITERAL_BAD_ARGUMENTS`] comes also if there is no such `kind`. The rest is as for
 /// [`literal_find_in`].
 #[unsafe(no_mangle)]
 pub extern "C" fn literal_find_word_in(
@@ -636,10 +664,10 @@ pub extern "C" fn literal_find_word_in(
     }
 }
 
-/// All whole words in the bytes of the haystack from `start` up to and not including `end`, as many as there is room
-/// for: first the one that [`literal_find_word_in`] finds, and after each the leftmost one of the bytes after it. The
-/// kind, the array and the statuses are as of [`literal_find_word_in`], and the page and the array of matches as of
-/// [`literal_find_all_in`].
+/// Finds all whole words in the bytes of the haystack from `start` up to `end`, which is not included, that do not
+/// overlap, as many as there is room for: first the one that [`literal_find_word_in`] finds, then each time the
+/// leftmost one after the previous one. The kind, the array and the statuses are as for [`literal_find_word_in`], and
+/// the page, the array of matches and its room as for [`literal_find_all_in`].
 #[unsafe(no_mangle)]
 pub extern "C" fn literal_find_all_words_in(
     kind: u32,
@@ -650,7 +678,8 @@ pub extern "C" fn literal_find_all_words_in(
     found: &mut [LiteralMatch],
     page: &mut LiteralPage,
 ) -> i32
-    ensures status { IsWordStatusBy prepared.now (IsKind kind × IsValidSpan haystack.now (between start end))
+    ensures status { IsWordStatusBy prepared.now
+        (IsKind kind × IsValidSpan haystack.now (between start end) × (0 < length found.old))
         (λ status. status ≡ LITERAL_OK) result }
     ensures page { result ≡ LITERAL_OK → ForAsciiWords prepared.now kind
         (λ words. IsWordPage words haystack.now (between start end) found.old found.new page.new) }
@@ -663,7 +692,7 @@ pub extern "C" fn literal_find_all_words_in(
     let Some(kind) = match_kind(kind) else {
         return LITERAL_BAD_ARGUMENTS;
     };
-    if start > end || end > haystack.len() {
+    if start > end || end > haystack.len() || found.is_empty() {
         return LITERAL_BAD_ARGUMENTS;
     }
     let Ok(words) = words_in(kind, prepared) else {
@@ -678,8 +707,8 @@ pub extern "C" fn literal_find_all_words_in(
     }
 }
 
-/// How many whole words [`literal_find_all_words_in`] finds, on one page after another: at most as many as there are
-/// bytes to search. The statuses are the same, and after any but [`LITERAL_OK`] the count is as it was.
+/// Counts the whole words that [`literal_find_all_words_in`] finds, page after page: at most as many as there are bytes
+/// to search. The statuses are the same. Unless the status is [`LITERAL_OK`], the count is unchanged.
 #[unsafe(no_mangle)]
 pub extern "C" fn literal_count_words_in(
     kind: u32,
@@ -714,9 +743,9 @@ pub extern "C" fn literal_count_words_in(
     }
 }
 
-/// Answers as [`literal_find_overlapping`], by a search that [`literal_prepare_overlapping`] wrote.
-/// [`LITERAL_BAD_ARGUMENTS`] and [`LITERAL_DAMAGED`] come as from [`literal_find_in`], and after any status but
-/// [`LITERAL_OK`] the page and the array of matches are as after [`literal_find_all_in`].
+/// Like [`literal_find_overlapping`], by a search that [`literal_prepare_overlapping`] wrote. [`LITERAL_BAD_ARGUMENTS`]
+/// and [`LITERAL_DAMAGED`] come as from [`literal_find_all_in`]. After any status but [`LITERAL_OK`] the page and the
+/// array of matches are as after that call.
 #[unsafe(no_mangle)]
 pub extern "C" fn literal_find_overlapping_in(
     prepared: &[u32],
@@ -726,7 +755,8 @@ pub extern "C" fn literal_find_overlapping_in(
     found: &mut [LiteralMatch],
     page: &mut LiteralPage,
 ) -> i32
-    ensures status { IsOverlappingStatusBy prepared.now (IsValidSpan haystack.now (between start end))
+    ensures status { IsOverlappingStatusBy prepared.now
+        (IsValidSpan haystack.now (between start end) × (0 < length found.old))
         (λ status. status ≡ LITERAL_OK) result }
     ensures page { ForOverlapping prepared.now (λ search. result ≡ LITERAL_OK → IsOverlappingPage
         (all_that_occurs search haystack.now (between start end)) found.old found.new page.new) }
@@ -735,7 +765,7 @@ pub extern "C" fn literal_find_overlapping_in(
     ensures as_before { (result ≡ LITERAL_OK) ⊎ (page.new ≡ page.old) }
     ensures refused { result ≡ LITERAL_BAD_ARGUMENTS → found.new ≡ found.old }
 {
-    if start > end || end > haystack.len() {
+    if start > end || end > haystack.len() || found.is_empty() {
         return LITERAL_BAD_ARGUMENTS;
     }
     let Ok(search) = PreparedOverlapping::new(prepared) else {

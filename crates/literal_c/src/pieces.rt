@@ -1,10 +1,10 @@
-//! A list of byte strings as C hands it over.
+//! A list of byte strings from C.
 ghost use Rattle.std.specs.Prelude.{◌≡◌, ◌↔◌, IsTrue, length};
 ghost use Rattle.literal_c.specs.Pieces.{AreEnds, pieces};
 
 use std::marker::Model;
 
-/// The pieces of a buffer, one after another. Contracts see the list of those that are left.
+/// An iterator over the pieces of a buffer. Contracts see the list of those that are left.
 #[derive(Drop)]
 pub struct Pieces<'b, 'e> {
     buffer: &'b [u8],

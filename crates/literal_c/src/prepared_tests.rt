@@ -1,4 +1,4 @@
-//! Each export that fills an array, or searches by one.
+//! Tests of the exports that fill an array or search by one.
 use crate::{
     LITERAL_BAD_ARGUMENTS, LITERAL_DAMAGED, LITERAL_LEFTMOST_FIRST, LITERAL_LEFTMOST_LONGEST,
     LITERAL_NO_SEARCHER, LITERAL_NONE, LITERAL_OK, LITERAL_TOO_SHORT, LiteralAnswer, LiteralMatch,
@@ -16,7 +16,7 @@ const ENDS: [usize; 3] = [5, 10, 17];
 
 const TEXT: &[u8] = b"Nobody likes maple in their apple flavored Snapple.";
 
-/// What no call writes.
+/// A match that no call writes.
 const BEFORE: LiteralMatch = LiteralMatch {
     pattern: 7,
     start: 8,
@@ -37,7 +37,7 @@ fn room(alloc: Global, kind: u32, ignore_case: bool) -> Result<Vec<u32>, Fail> {
     Ok(vec![in alloc; 0; needed]?)
 }
 
-/// A search for the words, and three places more.
+/// A search for the words, followed by three more entries.
 fn search_for_words(alloc: Global, kind: u32, ignore_case: bool) -> Result<Vec<u32>, Fail> {
     let mut prepared = room(alloc, kind, ignore_case)?;
     prepared.extend_from_slice(&[7, 8, 9])?;
@@ -121,6 +121,8 @@ fn finds_pages_by_an_array(rt: HostRuntime) -> Result<(), Fail> {
     assert_match(&rt, &found[1], (0, 28, 33));
     let status = literal_find_all_in(&prepared, TEXT, 52, 51, &mut found, &mut page);
     assert!(rt; status == LITERAL_BAD_ARGUMENTS && page.written == 1);
+    let status = literal_find_all_in(&prepared, TEXT, 0, 51, &mut [], &mut page);
+    assert!(rt; status == LITERAL_BAD_ARGUMENTS && page.written == 1);
     let status = literal_find_all_in(&[], TEXT, 0, 51, &mut found, &mut page);
     assert!(rt; status == LITERAL_DAMAGED && page.written == 1);
     Ok(())
@@ -150,7 +152,7 @@ fn finds_in_each_by_an_array(rt: HostRuntime) -> Result<(), Fail> {
     Ok(())
 }
 
-/// Makes each search by an array, and answers how many of them say that it is damaged.
+/// Makes each search by an array, and returns how many of them say that it is damaged.
 fn damaged_answers(prepared: &[u32]) -> usize {
     let mut found = [BEFORE, BEFORE, BEFORE, BEFORE];
     let (mut one, mut count) = (BEFORE, 0);
@@ -171,7 +173,7 @@ fn damaged_answers(prepared: &[u32]) -> usize {
         .count()
 }
 
-/// Each number in turn is changed, in one of its bits, and in all.
+/// Changes each number in turn, in one of its bits, and in all.
 #[test]
 fn notices_each_change(rt: HostRuntime) -> Result<(), Fail> {
     let mut prepared = search_for_words(rt.alloc(), LITERAL_LEFTMOST_FIRST, true)?;
@@ -191,7 +193,7 @@ fn notices_each_change(rt: HostRuntime) -> Result<(), Fail> {
     Ok(())
 }
 
-/// Every number is any number, but for those that say how many there are.
+/// Sets every number to any number, except those that say how many there are.
 #[test]
 fn searches_by_any_numbers(rt: HostRuntime) -> Result<(), Fail> {
     let mut prepared = search_for_words(rt.alloc(), LITERAL_LEFTMOST_FIRST, true)?;
@@ -206,7 +208,7 @@ fn searches_by_any_numbers(rt: HostRuntime) -> Result<(), Fail> {
     Ok(())
 }
 
-/// A search for all that occurs of three words, with case ignored, and three places more.
+/// A search for every occurrence of three words, with case ignored, followed by three more entries.
 fn search_for_all_of(alloc: Global) -> Result<Vec<u32>, Fail> {
     let (words, ends) = (b"abab", [2, 3, 4]);
     let mut needed = 0;

@@ -1,4 +1,4 @@
-//! Searches by a lent array in texts of which more may follow.
+//! Searches by a lent array in texts that may continue.
 ghost use Rattle.std.specs.Prelude.{◌≡◌, ◌⊎◌, ◌≤◌, ◌++◌, ℕ, List, IfOk, length, slice_index};
 ghost use Rattle.std.specs.Result.{IsOkAnd};
 ghost use Rattle.literal_search.specs.Prepared.{ForPrepared, longest_in};
@@ -9,8 +9,8 @@ use crate::answers::match_for_c;
 use crate::{LITERAL_NONE, LITERAL_OK, LiteralMatch};
 use literal_search::{Damaged, Prepared, SoFar, Span};
 
-/// What is known of the leftmost match in a text, from a place on, of which the haystack is the beginning where more
-/// may follow, and else all.
+/// What is known of the leftmost match from an offset on. The haystack begins a text, and is all of it if no more may
+/// follow.
 pub fn find_so_far(
     search: &Prepared<'_>,
     haystack: &[u8],
@@ -34,7 +34,7 @@ pub fn find_so_far(
     }
 }
 
-/// Writes what is known for C, and answers its status.
+/// Writes what is known for C, and returns the status.
 pub fn tell_so_far(answer: SoFar, found: &mut LiteralMatch, next: &mut usize) -> i32
     ensures told { IsToldBy answer result found.new next.new }
     ensures as_before { (result ≡ LITERAL_OK) ⊎ (found.new ≡ found.old) }

@@ -1,8 +1,9 @@
-//! Each export once, and what it writes.
+//! Tests that call each export once, and check what it writes.
 use crate::{
     LITERAL_BAD_ARGUMENTS, LITERAL_LEFTMOST_FIRST, LITERAL_LEFTMOST_LONGEST, LITERAL_NO_SEARCHER,
     LITERAL_NONE, LITERAL_OK, LiteralAnswer, LiteralMatch, LiteralPage, literal_can_search,
-    literal_find, literal_find_all, literal_find_each, literal_find_overlapping, literal_version,
+    literal_find, literal_find_all, literal_find_each, literal_find_overlapping, literal_fold,
+    literal_version,
 };
 use std::process::Abort;
 use std::test::Fail;
@@ -13,7 +14,7 @@ const ENDS: [usize; 3] = [5, 10, 17];
 
 const TEXT: &[u8] = b"Nobody likes maple in their apple flavored Snapple.";
 
-/// What no call writes.
+/// A match that no call writes.
 const BEFORE: LiteralMatch = LiteralMatch {
     pattern: 7,
     start: 8,
@@ -27,6 +28,12 @@ fn assert_match(rt: &impl Abort, found: &LiteralMatch, wanted: (usize, usize, us
 #[test]
 fn tells_its_version(rt: HostRuntime) {
     assert!(rt; literal_version() == 1000);
+}
+
+#[test]
+fn folds_a_text(rt: HostRuntime) {
+    let mut text = *b"\xC3\x89T\xC3\x89";
+    assert!(rt; literal_fold(&mut text) == LITERAL_OK && text == *b"\xC3\xA9t\xC3\xA9");
 }
 
 #[test]
@@ -145,6 +152,18 @@ fn finds_all_that_occurs(rt: HostRuntime) -> Result<(), Fail> {
     assert_match(&rt, &found[0], (2, 2, 3));
     let status = literal_find_overlapping(
         alloc, true, words, &ends, b"xAB", 2, 4, &mut found, &mut page,
+    );
+    assert!(rt; status == LITERAL_BAD_ARGUMENTS && page.written == 1);
+    let status = literal_find_overlapping(
+        alloc,
+        true,
+        words,
+        &ends,
+        b"xAB",
+        2,
+        3,
+        &mut [],
+        &mut page,
     );
     assert!(rt; status == LITERAL_BAD_ARGUMENTS && page.written == 1);
     Ok(())

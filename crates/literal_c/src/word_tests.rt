@@ -1,4 +1,4 @@
-//! Each export that searches for whole words.
+//! Tests of the exports that search for whole words.
 use crate::{
     LITERAL_BAD_ARGUMENTS, LITERAL_DAMAGED, LITERAL_LEFTMOST_FIRST, LITERAL_LEFTMOST_LONGEST,
     LITERAL_NONE, LITERAL_OK, LiteralMatch, LiteralPage, literal_count_words_in,
@@ -16,7 +16,7 @@ const ENDS: [usize; 3] = [4, 12, 25];
 
 const TEXT: &[u8] = b"New Yorkers like York and New York City.";
 
-/// What no call writes.
+/// A match that no call writes.
 const BEFORE: LiteralMatch = LiteralMatch {
     pattern: 7,
     start: 8,
@@ -27,7 +27,7 @@ fn assert_match(rt: &impl Abort, found: &LiteralMatch, wanted: (usize, usize, us
     assert!(rt; found.pattern == wanted.0 && found.start == wanted.1 && found.end == wanted.2);
 }
 
-/// A search for the words, of which the longest is taken, with case ignored.
+/// A search for the longest of the words, with case ignored.
 fn prepared(alloc: Global) -> Result<Vec<u32>, Fail> {
     let (kind, mut needed) = (LITERAL_LEFTMOST_LONGEST, 0);
     let mut array = vec![in alloc; 0; 2_000]?;

@@ -12,7 +12,7 @@ use crate::answers::match_for_c;
 use crate::{LiteralMatch, LiteralPage};
 use literal_search::{Damaged, MatchKind, Prepared, PreparedWords, Span, WholeWords};
 
-/// The search for whole words by an array, by a kind and the ASCII word bytes.
+/// The search for whole words by an array, with a match kind and the ASCII word bytes.
 pub fn words_in(kind: MatchKind, prepared: &[u32]) -> Result<PreparedWords<'_>, Damaged>
     ensures { MatchResult result (λ words. AreWordsBy kind prepared.now words × HasAllParts prepared.now)
         (λ _. ¬ HasAllParts prepared.now) }
@@ -21,7 +21,7 @@ pub fn words_in(kind: MatchKind, prepared: &[u32]) -> Result<PreparedWords<'_>, 
     Ok(PreparedWords::new(prepared, kind, WholeWords::ascii_word_bytes()))
 }
 
-/// Writes the whole words of a span, as many as there is room for, and says how many and what is left.
+/// Writes the whole words of a span, as many as there is room for, and returns how many these are and what is left.
 pub fn write_words(
     words: &PreparedWords<'_>,
     haystack: &[u8],
@@ -56,7 +56,7 @@ pub fn write_words(
     Ok(page)
 }
 
-/// How many whole words there are in a span.
+/// The number of whole words in a span.
 pub fn count_words(words: &PreparedWords<'_>, haystack: &[u8], span: Span) -> Result<usize, Damaged>
     requires { IsValidSpan haystack.now span }
     ensures count { ForWholeWords words.now (λ w. IsOkAnd result (IsWordCount w haystack.now span)) }

@@ -1,3 +1,2 @@
 -- Lemmas that several proofs share, by topic.
-pub mod Shared
 pub mod Tokens

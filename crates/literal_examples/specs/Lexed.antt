@@ -1,10 +1,11 @@
--- A text as words, one behind another.
+-- A text as a sequence of words.
 use Rattle.std.specs.Prelude.{◌≡◌, ℕ, List, [], ◌∷◌, None, Some}
 use Rattle.literal_base.specs.MatchValue.{MatchValue}
 use Rattle.literal_search.specs.At.{IsMatchAt}
 use Rattle.literal_search.specs.SearchValue.{SearchValue}
 
--- from a place on, the tokens are the matches that begin one where the other ends, up to the place at which none begins
+-- from an offset on, the tokens are matches that each begin where the previous one ends, up to the offset where none
+-- begins
 abbrev pub IsLexed : SearchValue → List ℕ → ℕ → List MatchValue → ℕ → Type 0
 IsLexed words text at [] end = (end ≡ at) × IsMatchAt words.query words.ignore_case text at None
 IsLexed words text at (found ∷ more) end =

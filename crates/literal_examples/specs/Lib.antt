@@ -3,3 +3,4 @@ pub mod Lexed
 pub mod Redacted
 pub mod Routes
 pub mod Tokens
+pub mod WordList

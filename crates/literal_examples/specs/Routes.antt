@@ -9,7 +9,7 @@ pub record IsLongestPrefix (prefixes : List (List ℕ)) (ignore_case : Bool) (pa
   pub longest : (j : ℕ) → j < length prefixes → StandsAt ignore_case (pattern_at prefixes j) path 0
       → length (pattern_at prefixes j) ≤ length (pattern_at prefixes i)
 
--- the answer is the longest prefix with which the path begins, and None exactly if it begins with none
+-- the answer is the longest prefix with which the path begins, or None exactly if it begins with none
 abbrev pub IsRoute : List (List ℕ) → Bool → List ℕ → Option ℕ → Type 0
 IsRoute prefixes ignore_case path answer = MatchOption answer
     ((i : ℕ) → i < length prefixes → ¬ StandsAt ignore_case (pattern_at prefixes i) path 0)

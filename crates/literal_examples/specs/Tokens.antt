@@ -5,12 +5,12 @@ use Rattle.literal_base.specs.declared.search.Span.{Span}
 use Rattle.literal_base.specs.MatchValue.{MatchValue}
 use Rattle.literal_examples.specs.declared.tokens.Token.{Token}
 
--- one after another the tokens are the part of a text from an offset up to another, and none of them is empty
+-- the tokens are, in order, the part of a text from one offset to another, and none of them is empty
 abbrev pub Tiles : ℕ → ℕ → List Token → Type 0
 Tiles from to [] = from ≡ to
 Tiles from to (token ∷ more) = (token.span.start ≡ from) × (from < token.span.end) × Tiles token.span.end to more
 
--- the match that a token is, if it is one
+-- the match of a token, if it is one
 abbrev pub match_in : Span → Option ℕ → List MatchValue
 match_in span None = []
 match_in span (Some pattern) = record { pattern = pattern; start = span.start; end = span.end } ∷ []
@@ -20,11 +20,11 @@ abbrev pub matched : List Token → List MatchValue
 matched [] = []
 matched (token ∷ more) = match_in token.span token.pattern ++ matched more
 
--- what lies between two offsets, as a token if it is not empty
+-- the bytes between two offsets as a token, if there are any
 abbrev pub gap : ℕ → ℕ → List Token
 gap from to = if nat_lt from to then record { span = record { start = from; end = to }; pattern = None } ∷ [] else []
 
--- what lies between two matches is at most one token: of two neighbouring tokens one is a match
+-- the bytes between two matches are at most one token: of two neighbouring tokens one is a match
 abbrev pub GapsAreWhole : List Token → Type 0
 GapsAreWhole [] = ⊤
 GapsAreWhole (token ∷ []) = ⊤

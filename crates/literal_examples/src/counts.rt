@@ -1,4 +1,4 @@
-//! Callers of counts that rely on contracts alone.
+//! Callers of counts that rely only on contracts.
 ghost use Rattle.std.specs.Prelude.{◌≡◌, ◌+◌, ◌≤◌, List, length, IfOk};
 ghost use Rattle.literal_base.specs.Greedy.{IsGreedy};
 ghost use Rattle.literal_base.specs.MatchValue.{MatchValue};
@@ -36,7 +36,7 @@ pub fn ticked() -> Tally
     tally
 }
 
-/// How many matches there are in a text, and what it takes to count them one after another.
+/// The number of matches in a text. The tally counts the bytes that are looked up.
 pub fn count_scanned(search: &Search, text: &[u8], tally: &mut Tally) -> usize
     ensures count { (all : List MatchValue) × IsGreedy search.now.query search.now.ignore_case text.now 0 all
         × (result ≡ length all) }
@@ -52,7 +52,7 @@ pub fn count_scanned(search: &Search, text: &[u8], tally: &mut Tally) -> usize
     count
 }
 
-/// All matches in what is read of a text.
+/// All matches in a text that is read as a stream.
 pub fn list_streamed(alloc: Global, search: &Search, text: &[u8]) -> io::Result<Vec<Match>>
     ensures all { IfOk result (λ all. IsGreedy search.now.query search.now.ignore_case text.now 0 all.items) }
 {

@@ -7,8 +7,8 @@ ghost use Rattle.literal_base.specs.MatchValue.{MatchValue};
 use literal_search::Search;
 use std::alloc::{AllocError, Global};
 
-/// How often each pattern is a match, of those from the left that do not overlap. Memory is asked for only where there
-/// is a pattern.
+/// How often each pattern is a match, of all matches from the left that do not overlap. Memory is requested only if
+/// there is a pattern.
 pub fn frequencies(
     alloc: Global,
     search: &Search,
@@ -23,13 +23,13 @@ pub fn frequencies(
 {
     let mut counts = zeroes(alloc, search.patterns_len())?;
     for found in search.find_iter(haystack) {
-        let _ = found.end(); // (a `usize`, which no count passes)
+        let _ = found.end(); // (a `usize`, which bounds each count)
         counts[found.pattern().as_usize()] += 1;
     }
     Ok(counts)
 }
 
-/// A list of so many zeroes.
+/// A list of zeroes.
 fn zeroes(alloc: Global, count: usize) -> Result<Vec<usize>, AllocError>
     ensures zeroes { IfOk result (λ all. all.items ≡ replicate count 0) }
     ensures no_memory { OnErr result (0 < count) }

@@ -13,8 +13,7 @@ pub fn is_clean(keywords: &Search, line: &[u8]) -> bool
     keywords.find(line).is_none()
 }
 
-/// The leftmost match that begins at an offset, in bytes, or after it. The offset is at most the
-/// haystack's length.
+/// The leftmost match that begins at an offset or after it. The offset has to be at most the haystack's length.
 pub fn find_from(search: &Search, haystack: &[u8], at: usize) -> Option<Match>
     requires { at ≤ length haystack.now }
     ensures { IsLeftmost search.now.query search.now.ignore_case haystack.now (rest_from haystack.now at) result }

@@ -1,4 +1,4 @@
-//! A lexer: a text as words, one behind another.
+//! A lexer: it cuts a text into a sequence of words.
 ghost use Rattle.std.specs.Prelude.{◌≡◌, ◌+◌, ◌*◌, ◌<◌, ◌≤◌, IfOk, OnErr, length};
 ghost use Rattle.literal_search.specs.SearchValue.{longest_of};
 ghost use Rattle.literal_examples.specs.Lexed.{IsLexed};
@@ -6,18 +6,17 @@ ghost use Rattle.literal_examples.specs.Lexed.{IsLexed};
 use literal_search::{Match, Search, Tally};
 use std::alloc::{AllocError, Global};
 
-/// The tokens of a text, and where they end: at its end, or at the place at which no word stands.
+/// The tokens of a text, and the offset where they end: the text's end, or the first offset where no word is.
 #[derive(Drop)]
 pub struct Lexed {
     pub tokens: Vec<Match>,
     pub end: usize,
 }
 
-/// The tokens at the beginning of a text: at each place the word that stands there, by the kind of match the longest
-/// or the first, and the next one behind it. Blanks are words too. Its whole run is linear: it adds to the tally at
-/// most as many bytes as the longest word has, for each token, which takes a byte or more, and once for the end; and at
-/// least those of the tokens.
-/// Memory is asked for only where the text is not empty.
+/// The tokens at the beginning of a text: at each offset the word there, by the match kind the longest or the first,
+/// and then the next one after it. Blanks are words too. It takes linear time: for each token, which has a byte or
+/// more, and once at the end, it looks up at most as many bytes as the longest word has. It looks up at least the bytes
+/// of the tokens. Memory is requested only if the text is not empty.
 pub fn lex(
     alloc: Global,
     words: &Search,

@@ -1,4 +1,4 @@
-//! A router: which of some prefixes a path begins with.
+//! A router: it finds the prefix with which a path begins.
 ghost use Rattle.std.specs.Prelude.{◌≡◌};
 ghost use Rattle.literal_base.specs.declared.packed.MatchKind.TheVariants.{LeftmostLongest};
 ghost use Rattle.literal_examples.specs.Routes.{IsRoute};

@@ -1,10 +1,10 @@
-//! A loop of the caller's own over the automaton of a search for every occurrence.
+//! A caller's own loop over the automaton of a search for every occurrence.
 ghost use Rattle.literal_base.specs.Occurs.{whole_of};
 ghost use Rattle.literal_search.specs.Earliest.{IsEarliestEnd};
 
 use literal_search::Overlapping;
 
-/// The earliest end of an occurrence in a haystack, an offset in bytes, as `Overlapping::earliest_end` finds it.
+/// The earliest end of an occurrence in a haystack, as a byte offset, as `Overlapping::earliest_end` finds it.
 pub fn first_end(search: &Overlapping, haystack: &[u8]) -> Option<usize>
     ensures { IsEarliestEnd search.now.patterns search.now.ignore_case haystack.now (whole_of haystack.now) result }
 {

@@ -1,4 +1,4 @@
-//! A text cut into matches and what lies between them.
+//! Cuts a text into matches and the gaps between them.
 ghost use Rattle.std.specs.Prelude.{◌≡◌, ◌<◌, ◌≤◌, ◌++◌, IfOk, OnErr, OnOk, length};
 ghost use Rattle.literal_base.specs.Greedy.{IsGreedy};
 ghost use Rattle.literal_examples.specs.Tokens.{GapsAreWhole, Tiles, gap, matched};
@@ -6,18 +6,18 @@ ghost use Rattle.literal_examples.specs.Tokens.{GapsAreWhole, Tiles, gap, matche
 use literal_search::{PatternID, Search, Span};
 use std::alloc::{AllocError, Global};
 
-/// A part of a text: the match of a pattern, or what lies between two matches.
+/// A part of a text: the match of a pattern, or a gap between two matches.
 #[derive(Clone, Copy, Debug, PartialEq, Drop)]
 pub struct Token {
-    /// Which offsets of the text it has, in bytes.
+    /// The offsets of the token in the text, in bytes.
     pub span: Span,
-    /// The pattern that stands there, if one does.
+    /// The pattern that matches there, if one does.
     pub pattern: Option<PatternID>,
 }
 
-/// The tokens of a text: the matches from the left that do not overlap, and what lies between them,
-/// before them and behind them, each gap as one token. No token is empty, and one after another they
-/// are the whole text. Memory is asked for only where the text is not empty.
+/// The tokens of a text: the matches from the left that do not overlap, and the gaps before, between and after them,
+/// each as one token. No token is empty, and in order they are the whole text. Memory is requested only if the text is
+/// not empty.
 pub fn tokens(alloc: Global, search: &Search, haystack: &[u8]) -> Result<Vec<Token>, AllocError>
     ensures tiles { IfOk result (λ all. Tiles 0 (length haystack.now) all.items) }
     ensures matched { IfOk result (λ all. IsGreedy search.now.query search.now.ignore_case haystack.now 0
@@ -39,7 +39,7 @@ pub fn tokens(alloc: Global, search: &Search, haystack: &[u8]) -> Result<Vec<Tok
     Ok(all)
 }
 
-/// Adds what lies between two offsets, unless that is nothing.
+/// Adds the bytes between two offsets as a token, unless there are none.
 fn push_gap(all: &mut Vec<Token>, start: usize, end: usize) -> Result<(), AllocError>
     requires { start ≤ end }
     ensures ok { OnOk result (all.new.items ≡ all.old.items ++ gap start end) }

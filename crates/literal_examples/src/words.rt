@@ -1,5 +1,5 @@
-//! Whether a word stands in a text, by a `Search` for the words of an array, a slice, a vector, or a list of texts, and
-//! all that occur there.
+//! Whether a word occurs in a text, by a `Search` for the words of an array, a slice, a vector, or a list of texts, and
+//! every occurrence there.
 ghost use Rattle.std.specs.Prelude.{◌≡◌, ◌-◌, IfOk, false, map, nat_le, string_bytes, true};
 ghost use Rattle.literal_base.specs.Occurs.{one_occurs, whole_of};
 ghost use Rattle.literal_search.specs.Overlapping.{AreAllThat, IsOverlapping};
@@ -8,7 +8,7 @@ use literal_search::laws::iterations_give_each_occurrence_once;
 use literal_search::{BuildError, Match, MatchKind, Overlapping, Search};
 use std::alloc::{AllocError, Global};
 
-/// Whether one of the words of an array stands in a text, with ASCII case ignored.
+/// Whether one of the words of an array occurs in a text, with ASCII case ignored.
 pub fn has_one_of_array(alloc: Global, words: [&[u8]; 3], text: &[u8]) -> Result<bool, BuildError>
     ensures { IfOk result (λ has. has ≡ one_occurs (map (λ word. word.now) words.entry) true text.now) }
 {
@@ -16,7 +16,7 @@ pub fn has_one_of_array(alloc: Global, words: [&[u8]; 3], text: &[u8]) -> Result
     Ok(search.is_match(text))
 }
 
-/// The same of a slice.
+/// The same for a slice.
 pub fn has_one_of_slice(alloc: Global, words: &[&[u8]], text: &[u8]) -> Result<bool, BuildError>
     ensures { IfOk result (λ has. has ≡ one_occurs (map (λ word. word.now) words.now) true text.now) }
 {
@@ -25,7 +25,7 @@ pub fn has_one_of_slice(alloc: Global, words: &[&[u8]], text: &[u8]) -> Result<b
     Ok(search.is_match(text))
 }
 
-/// The same of a vector.
+/// The same for a vector.
 pub fn has_one_of_vec(alloc: Global, words: Vec<&[u8]>, text: &[u8]) -> Result<bool, BuildError>
     ensures { IfOk result (λ has. has ≡ one_occurs (map (λ word. word.now) words.entry.items) true text.now) }
 {
@@ -33,7 +33,7 @@ pub fn has_one_of_vec(alloc: Global, words: Vec<&[u8]>, text: &[u8]) -> Result<b
     Ok(search.is_match(text))
 }
 
-/// The same of owned texts, as they come from a command line.
+/// The same for owned texts, as they come from a command line.
 pub fn has_one_of_texts(alloc: Global, words: &[String], text: &[u8]) -> Result<bool, BuildError>
     ensures { IfOk result (λ has. has ≡ one_occurs (map string_bytes words.now) true text.now) }
 {
@@ -42,7 +42,7 @@ pub fn has_one_of_texts(alloc: Global, words: &[String], text: &[u8]) -> Result<
     Ok(search.is_match(text))
 }
 
-/// Every occurrence of the words of a slice in a text, those that overlap others too, in the order of ends.
+/// Every occurrence of the words of a slice in a text, also those that overlap others, in the order of ends.
 pub fn all_that_occurs(
     alloc: Global,
     words: &[&[u8]],
@@ -55,7 +55,7 @@ pub fn all_that_occurs(
     Ok(collect_all(alloc, &search, text)?)
 }
 
-/// The list of what a search for all that occurs gives.
+/// The list of all occurrences that a search gives.
 pub fn collect_all(
     alloc: Global,
     search: &Overlapping,
@@ -72,7 +72,7 @@ pub fn collect_all(
     Ok(all)
 }
 
-/// Every occurrence of at least so many bytes in a text, in the order of ends.
+/// Every occurrence with at least this many bytes in a text, in the order of ends.
 pub fn occurrences_of_at_least(
     alloc: Global,
     search: &Overlapping,

@@ -1,5 +1,4 @@
-//! Patterns dealt out to buckets. Each is held by one. Nothing is proved of which one: that makes a scan faster or
-//! slower, and no more.
+//! Assigns each pattern to a bucket. The choice of the bucket is not verified: it only makes a scan faster or slower.
 ghost use Rattle.std.specs.Prelude.{◌≡◌, ℕ, ◌^◌, ◌<◌, ◌≤◌, ◌↔◌, IsTrue, List, length, map, slice_index, true};
 ghost use Rattle.std.specs.List.{All};
 ghost use Rattle.literal_base.specs.Occurs.{same_byte};
@@ -7,19 +6,19 @@ ghost use Rattle.literal_fingerprints.specs.Inside.Buckets.{AreTooFull, HasByte,
 
 use crate::nibbles::{Nibbles, other_case};
 
-/// How many bytes of each pattern are looked at, at most.
+/// The largest number of bytes of each pattern in a fingerprint.
 pub const LOOKED_AT: usize = 4;
 
-/// How many buckets there are.
+/// The number of buckets.
 const BUCKETS: usize = 8;
 
-/// A scan is faster than a search where one text of so many passes at most, and one of so many needlessly: that was
-/// measured.
+/// A scan is faster than a search if at most one of `PASSING` texts passes, and one of `NEEDLESS` is a false positive.
+/// These numbers were measured.
 const PASSING: u64 = 8;
 
 const NEEDLESS: u64 = 256;
 
-/// The halves of bytes, as sets.
+/// The nibbles of some bytes, as sets.
 #[derive(Clone, Copy)]
 struct Halves {
     low: u16,
@@ -27,7 +26,7 @@ struct Halves {
 }
 
 impl Halves {
-    /// The same with those of a byte more.
+    /// The same with the nibbles of one more byte.
     fn with(self, byte: u8) -> Halves
         ensures has { HasByte result byte }
         ensures keeps { (other : ℕ) → HasByte self other → HasByte result other }
@@ -38,7 +37,7 @@ impl Halves {
         }
     }
 
-    /// The same with those of all bytes.
+    /// The same with the nibbles of all bytes.
     fn with_all(self) -> Halves
         ensures { (other : ℕ) → HasByte self other → HasByte result other }
     {
@@ -48,8 +47,8 @@ impl Halves {
         }
     }
 
-    /// The same with those of the byte at a place of a pattern, in both cases where case is ignored. After the pattern
-    /// a text may have any byte.
+    /// The same with the nibbles of the byte at an offset of a pattern, in both cases if case is ignored. After the
+    /// pattern, a text may have any byte.
     fn with_place(self, ignore_case: bool, pattern: &[u8], place: usize) -> Halves
         ensures has { place < length pattern.now → (byte : ℕ)
             → same_byte ignore_case byte (slice_index pattern.now place) ≡ true → HasByte result byte }
@@ -62,7 +61,7 @@ impl Halves {
         self.with(byte).with(other_case(ignore_case, byte))
     }
 
-    /// The same with those of the first bytes of a pattern.
+    /// The same with the nibbles of the first bytes of a pattern, at most four.
     fn with_first(self, ignore_case: bool, pattern: &[u8]) -> Halves {
         let mut halves = self;
         for place in 0..LOOKED_AT.min(pattern.len()) {
@@ -71,7 +70,7 @@ impl Halves {
         halves
     }
 
-    /// How many bytes have such halves.
+    /// The number of bytes with such nibbles.
     fn bytes(self) -> u64
         ensures { result ≡ bytes_of self }
     {
@@ -79,21 +78,21 @@ impl Halves {
     }
 }
 
-/// The halves of the bytes that the patterns of a bucket have at each place.
+/// The nibbles of the bytes at each position of the patterns of a bucket.
 #[derive(Clone, Copy)]
 struct Bucket {
     places: [Halves; LOOKED_AT],
 }
 
 impl Bucket {
-    /// Of no pattern.
+    /// The bucket of no pattern.
     fn empty() -> Bucket {
         Bucket {
             places: [Halves { low: 0, high: 0 }; LOOKED_AT],
         }
     }
 
-    /// The same with a pattern more.
+    /// The same with one more pattern.
     fn with(self, ignore_case: bool, pattern: &[u8]) -> Bucket
         ensures holds { Holds result ignore_case pattern.now }
         ensures keeps { (other : List ℕ) → Holds self ignore_case other → Holds result ignore_case other }
@@ -105,7 +104,7 @@ impl Bucket {
         Bucket { places }
     }
 
-    /// How many texts of four bytes pass, of bytes of so many kinds.
+    /// The number of texts of four bytes that pass, if bytes have `kinds` values.
     fn texts(&self, kinds: u64) -> u64
         requires { kinds ≤ 256 }
         ensures texts { result ≡ texts_of kinds self.now }
@@ -122,14 +121,14 @@ impl Bucket {
 #[derive(Clone, Copy)]
 pub struct Buckets {
     buckets: [Bucket; BUCKETS],
-    /// How many kinds of bytes a text may have.
+    /// The number of values that a byte of a text may have.
     kinds: u64,
-    /// How many texts of four bytes begin as some pattern does.
+    /// The number of texts of four bytes that begin like a pattern.
     wanted: u64,
 }
 
 impl Buckets {
-    /// Each pattern in the bucket by which the fewest texts more pass.
+    /// Puts each pattern into the bucket where it lets the fewest more texts pass.
     pub fn of(ignore_case: bool, patterns: &[Vec<u8>]) -> Buckets
         ensures kinds { result.kinds ≤ 256 }
         ensures held { All (λ (pattern : List ℕ). IsHeld result.buckets ignore_case pattern)
@@ -151,7 +150,7 @@ impl Buckets {
         }
     }
 
-    /// Whether so many texts pass, or so many with which no pattern begins, that a scan is no faster than a search.
+    /// Whether so many texts pass, or so many are false positives, that a scan is no faster than a search.
     pub fn are_too_full(&self) -> bool
         requires { self.now.kinds ≤ 256 }
         ensures { IsTrue result ↔ AreTooFull self.now }
@@ -165,7 +164,7 @@ impl Buckets {
         texts > all / PASSING || texts.saturating_sub(self.wanted) > all / NEEDLESS
     }
 
-    /// The table for one place.
+    /// The table for one position.
     pub fn table(&self, place: usize) -> Nibbles
         requires { place < LOOKED_AT }
     {
@@ -186,7 +185,7 @@ impl Buckets {
     }
 }
 
-/// How many kinds of bytes a text of such patterns may have: all with one of the upper halves of their first bytes.
+/// The number of byte values of a text with such patterns: all with the high nibble of one of their first bytes.
 fn kinds_of(ignore_case: bool, patterns: &[Vec<u8>]) -> u64
     ensures { result ≤ 256 }
 {
@@ -197,7 +196,7 @@ fn kinds_of(ignore_case: bool, patterns: &[Vec<u8>]) -> u64
     halves.high.count_ones() as u64 * 16
 }
 
-/// The bucket by which the fewest texts more pass once it has the pattern too.
+/// The bucket where the pattern lets the fewest more texts pass.
 fn best_for(buckets: &[Bucket; BUCKETS], kinds: u64, ignore_case: bool, pattern: &[u8]) -> usize
     requires { kinds ≤ 256 }
     ensures { result < BUCKETS }

@@ -10,20 +10,20 @@ use crate::pair::{RarePair, bytes_before_pair};
 use literal_base::Span;
 use literal_base::count::Tally;
 
-/// Tells at which places of a haystack a pattern of a list may begin: at candidates.
+/// Finds candidates: offsets of a haystack at which a pattern of a list may begin.
 #[derive(Clone, Copy)]
 pub struct CandidateScan {
-    /// The fingerprints of the patterns. Where there is a pair, they have no meaning.
+    /// The fingerprints of the patterns. If there is a pair, they are not used.
     pub fingerprints: Fingerprints,
     /// Two or three bytes of the only pattern.
     pub pair: Option<RarePair>,
-    /// The scan goes by what follows so many first bytes of each pattern.
+    /// The number of first bytes of each pattern that the scan skips.
     pub skipped: u8,
 }
 
 impl CandidateScan {
-    /// The scan for some patterns: by a pair for one, and by fingerprints for several. There is none where there is no
-    /// pattern, or an empty one, and where several have no fingerprints.
+    /// Returns the scan for some patterns: by a pair for one, and by fingerprints for several. There is none if there
+    /// is no pattern, if one is empty, or if several have no fingerprints.
     pub fn new(ignore_case: bool, patterns: &[Vec<u8>]) -> Option<CandidateScan>
         ensures stops { IfSome result
             (λ scan. StopsAtEach scan ignore_case (map (λ pattern. pattern.items) patterns.now)) }
@@ -46,8 +46,8 @@ impl CandidateScan {
         })
     }
 
-    /// A place of the span, or its end, before which no pattern begins that lies whole in the span. The span has to be
-    /// valid.
+    /// Returns an offset of the span, or its end, before which no pattern begins that lies whole in the span. The span
+    /// has to be valid.
     #[inline(always)]
     pub fn next(&self, haystack: &[u8], span: Span, tally: &mut Tally) -> usize
         requires { IsValidSpan haystack.now span }
@@ -65,7 +65,7 @@ impl CandidateScan {
             start: span.start + skipped,
             end: span.end,
         };
-        // (a copy of the pair: a reference to it would keep the fingerprints out of registers, too)
+        // The pair is copied: with a reference to it, the compiler keeps the fingerprints in memory too.
         let at = match self.pair {
             None => self.fingerprints.next(haystack, rest, tally),
             Some(pair) => pair.next(haystack, rest, tally),
@@ -73,7 +73,7 @@ impl CandidateScan {
         at - skipped
     }
 
-    /// How many bytes a scan reads at most behind the place at which it stops.
+    /// Returns the most bytes that a scan reads after the offset at which it stops.
     pub fn ahead(&self) -> usize
         ensures { result ≡ ahead_of self.now }
     {
@@ -84,7 +84,7 @@ impl CandidateScan {
     }
 }
 
-/// The pair of one pattern, and how many bytes of the pattern come before those among which it was chosen.
+/// The number of first bytes of the only pattern that are skipped, and the pair of the others.
 fn pair_for(ignore_case: bool, patterns: &[Vec<u8>]) -> Option<(u8, RarePair)>
     ensures stops { IfSome result (λ found. AreOf found.1 ignore_case
         (without_first found.0 (map (λ pattern. pattern.items) patterns.now))) }

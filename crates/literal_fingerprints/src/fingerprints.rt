@@ -1,4 +1,4 @@
-//! Tables of the bytes with which patterns begin, and the scan by them.
+//! Tables of the first bytes of patterns, and the scan by them.
 ghost use Rattle.std.specs.Prelude.{◌≡◌, ℕ, ◌+◌, ◌-◌, ◌*◌, ◌%◌, ◌<◌, ◌≤◌, List, IfSome, IsTrue};
 ghost use Rattle.std.specs.Prelude.{[], length, map, slice_index, slice_index_or, take};
 ghost use Rattle.literal_base.specs.Occurs.{IsValidSpan};
@@ -20,17 +20,17 @@ use literal_base::count::Tally;
 use std::marker::Model;
 use std::simd::prelude::*;
 
-/// For how many patterns there are fingerprints.
+/// The largest number of patterns with fingerprints.
 const MOST_PATTERNS: usize = 64;
 
-/// The first bytes of a span are looked up 16 at a time. To begin with 32 at a time takes longer than it saves there.
+/// The first bytes of a span are looked up 16 at a time. 32 at a time would take longer there.
 const NEAR: usize = 128;
 
-/// How many bytes fingerprints take.
+/// The size of fingerprints in bytes.
 pub const BYTES: usize = 8 * HALVES;
 
-/// The fingerprints of a list of patterns: by the first four bytes of each, or all of a shorter one, a scan tells at
-/// which places of a haystack one of them may begin. Contracts see the tables.
+/// The fingerprints of a list of patterns. By the first four bytes of each, or all of a shorter one, a scan finds the
+/// offsets of a haystack at which one of them may begin. Contracts see the tables.
 #[derive(Clone, Copy)]
 pub struct Fingerprints {
     first: Nibbles,
@@ -39,16 +39,16 @@ pub struct Fingerprints {
     fourth: Nibbles,
 }
 
-/// How far a scan has come.
+/// The progress of a scan.
 #[derive(Clone, Copy)]
 struct Passed {
-    /// All bytes before this place are looked up.
+    /// All bytes before this offset are looked up.
     at: usize,
-    /// The place of the last of the first four bytes that share a bucket, or `at` if there are none.
+    /// The offset of the last of the first four bytes that share a bucket, or `at` if there are none.
     stop: usize,
     /// The last 16 bytes that were looked up, unless the scan stops.
     bytes: u8x16,
-    /// What the tables give the last 16 bytes, unless the scan stops.
+    /// The buckets of the last 16 bytes, unless the scan stops.
     before: LookedUp,
 }
 
@@ -74,8 +74,8 @@ impl Model for Fingerprints {
 }
 
 impl Fingerprints {
-    /// Those of some patterns. There are none where there is no pattern, or an empty one, or more than 64, and where
-    /// so many places would pass that a scan doesn't help.
+    /// Returns the fingerprints of some patterns. There are none if there is no pattern, an empty one, or more than 64,
+    /// or if so many offsets would pass that a scan does not help.
     pub fn new(ignore_case: bool, patterns: &[Vec<u8>]) -> Option<Fingerprints>
         ensures pass { IfSome result (λ f. AllPass f ignore_case (map (λ pattern. pattern.items) patterns.now)) }
         ensures some { IfSome result (λ _. (0 < length patterns.now) × (length patterns.now ≤ 64)) }
@@ -100,7 +100,7 @@ impl Fingerprints {
         }
     }
 
-    /// These as bytes, by which [`Fingerprints::from_bytes`] makes them again.
+    /// Returns the fingerprints as bytes, for [`Fingerprints::from_bytes`].
     pub fn to_bytes(&self) -> [u8; BYTES]
         ensures { fingerprints_in result ≡ self.now }
     {
@@ -111,7 +111,7 @@ impl Fingerprints {
         bytes
     }
 
-    /// Those of these bytes, whatever they are: the halves of each table, one behind another.
+    /// Returns the fingerprints in any bytes: the halves of the tables, in order.
     #[inline(always)]
     pub fn from_bytes(bytes: &[u8; BYTES]) -> Fingerprints
         ensures { result ≡ fingerprints_in bytes.now }
@@ -141,7 +141,7 @@ impl Fingerprints {
         }
     }
 
-    /// Whether each of some patterns passes wherever it stands.
+    /// Whether each pattern passes wherever it occurs.
     fn are_for(&self, ignore_case: bool, patterns: &[Vec<u8>]) -> bool
         ensures { IsTrue result → AllPass self.now ignore_case (map (λ pattern. pattern.items) patterns.now) }
     {
@@ -153,7 +153,7 @@ impl Fingerprints {
         true
     }
 
-    /// Whether a pattern is not empty, and passes wherever it stands.
+    /// Whether a pattern is not empty, and passes wherever it occurs.
     fn lets_pass(&self, ignore_case: bool, pattern: &[u8]) -> bool
         ensures { IsTrue result → LetsPass self.now ignore_case pattern.now }
     {
@@ -167,10 +167,10 @@ impl Fingerprints {
         (first & second) & (third & fourth) != 0
     }
 
-    /// A place of the span, or its end, before which no pattern begins that lies whole in the span. The span has to be
-    /// valid. The scan stops at the first place at which a pattern may begin by its fingerprint. Each byte is read
-    /// once: 16 at a time, and in a long span 32 at a time after the first. The last bytes, fewer than 16, are read
-    /// together; with 14 or 15 of them the scan stops up to two places before the end of the span.
+    /// Returns an offset of the span, or its end, before which no pattern begins that lies whole in the span. The span
+    /// has to be valid. The scan stops at the first offset at which a pattern may begin by its fingerprint. Each byte
+    /// is read once: 16 at a time, and in a long span 32 at a time after the first. The last bytes, fewer than 16, are
+    /// read together; with 14 or 15 of them the scan stops up to two bytes before the end of the span.
     #[inline(always)]
     pub fn next(&self, haystack: &[u8], span: Span, tally: &mut Tally) -> usize
         requires { IsValidSpan haystack.now span }
@@ -197,7 +197,7 @@ impl Fingerprints {
         if is_short {
             return self.rest(passed.before, haystack, passed.at, span, tally);
         }
-        // (a copy of what is handed on: a reference to it would keep it out of registers)
+        // The tables are copied: with a reference to them, the compiler keeps them in memory.
         let tables = Fingerprints {
             first: self.first,
             second: self.second,
@@ -207,7 +207,7 @@ impl Fingerprints {
         tables.next_far(passed.bytes, haystack, passed.at, span, tally)
     }
 
-    /// Looks up bytes 16 at a time from a place on, as long as there are 16 before another one, or until a pattern may
+    /// Looks up 16 bytes at a time from an offset on, while there are 16 before another one, or until a pattern may
     /// begin by its fingerprint.
     #[inline(always)]
     fn pass(
@@ -289,7 +289,7 @@ impl Fingerprints {
             .min(span.end)
     }
 
-    /// What the tables give 16 bytes of a haystack.
+    /// The buckets of 16 bytes of a haystack.
     #[inline(always)]
     fn look_up(&self, bytes: u8x16) -> LookedUp
         ensures { (haystack : List ℕ) (start at : ℕ) → start ≤ at → HasLanes bytes (λ k. slice_index haystack (at + k))

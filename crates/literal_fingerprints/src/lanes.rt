@@ -10,10 +10,10 @@ use crate::nibbles::Nibbles;
 use literal_base::count::Tally;
 use std::simd::prelude::*;
 
-/// How many lanes a vector has.
+/// The number of lanes of a vector.
 pub const LANES: usize = 16;
 
-/// The bytes of a haystack from a place on, each of which so counts as scanned.
+/// The bytes of a haystack from an offset on. Each counts as scanned.
 #[inline(always)]
 pub fn load(haystack: &[u8], at: usize, tally: &mut Tally) -> u8x16
     requires { at + 16 ≤ length haystack.now }
@@ -26,8 +26,7 @@ pub fn load(haystack: &[u8], at: usize, tally: &mut Tally) -> u8x16
     u8x16::from_slice(&haystack[at..])
 }
 
-/// The bytes of a haystack from a place on up to an end, fewer than 16, and zeros behind them. Each byte so counts as
-/// scanned.
+/// The bytes of a haystack from an offset to an end, fewer than 16, followed by zeros. Each byte counts as scanned.
 #[inline(always)]
 pub fn load_rest(haystack: &[u8], at: usize, end: usize, tally: &mut Tally) -> u8x16
     requires ordered { at ≤ end }
@@ -44,7 +43,7 @@ pub fn load_rest(haystack: &[u8], at: usize, end: usize, tally: &mut Tally) -> u
     u8x16::from_slice(&bytes)
 }
 
-/// The byte of a haystack at a place, which so counts as scanned.
+/// The byte of a haystack at an offset. It counts as scanned.
 #[inline(always)]
 pub fn byte_at(haystack: &[u8], at: usize, tally: &mut Tally) -> u8
     requires { at < length haystack.now }
@@ -55,7 +54,7 @@ pub fn byte_at(haystack: &[u8], at: usize, tally: &mut Tally) -> u8
     haystack[at]
 }
 
-/// The bits of both.
+/// The bits that both have.
 #[inline(always)]
 pub fn both(one: u8x16, other: u8x16) -> u8x16
     ensures { HasLanes result (λ k. bit_and (slice_index one k) (slice_index other k)) }
@@ -63,7 +62,7 @@ pub fn both(one: u8x16, other: u8x16) -> u8x16
     one & other
 }
 
-/// The bits of one or the other.
+/// The bits that either has.
 #[inline(always)]
 pub fn either(one: u8x16, other: u8x16) -> u8x16
     ensures { HasLanes result (λ k. bit_or (slice_index one k) (slice_index other k)) }
@@ -71,7 +70,7 @@ pub fn either(one: u8x16, other: u8x16) -> u8x16
     one | other
 }
 
-/// 255 for each byte that is the rare one, once the bits of the mask are set in it, and else 0.
+/// 255 for each byte that is the rare one, once the bits of the mask are set, otherwise 0.
 #[inline(always)]
 pub fn wanted(bytes: u8x16, rare: u8, mask: u8) -> u8x16
     ensures { HasLanes result (λ k. hit rare mask (slice_index bytes k)) }
@@ -81,7 +80,7 @@ pub fn wanted(bytes: u8x16, rare: u8, mask: u8) -> u8x16
         .select(u8x16::splat(255), u8x16::splat(0))
 }
 
-/// The entry of a table at the low half of each byte.
+/// The entry of a table at the low nibble of each byte.
 #[inline(always)]
 fn by_low(table: &[u8; 16], bytes: u8x16) -> u8x16
     ensures { HasLanes result (λ k. slice_index table.now (slice_index bytes k % 16)) }
@@ -89,7 +88,7 @@ fn by_low(table: &[u8; 16], bytes: u8x16) -> u8x16
     u8x16::from_slice(table).swizzle_dyn(bytes & u8x16::splat(15))
 }
 
-/// The same at the high half.
+/// The entry of a table at the high nibble of each byte.
 #[inline(always)]
 fn by_high(table: &[u8; 16], bytes: u8x16) -> u8x16
     ensures { HasLanes result (λ k. slice_index table.now (slice_index bytes k / 16 % 16)) }

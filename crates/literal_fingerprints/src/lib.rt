@@ -1,5 +1,5 @@
-//! Scans by vectors of bytes that pass over places at which no pattern of a list begins, with ASCII case kept or
-//! ignored: by the fingerprints of several patterns, or by two or three rare bytes of one.
+//! Vector scans that pass over offsets at which no pattern of a list begins, with ASCII case kept or ignored: by the
+//! fingerprints of several patterns, or by two or three rare bytes of one.
 #![tactic(auto)]
 
 mod buckets;

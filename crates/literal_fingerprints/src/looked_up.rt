@@ -1,4 +1,4 @@
-//! What the tables give 16 bytes, and which of them may end the fingerprint of a pattern.
+//! The buckets of 16 bytes, and which of these bytes may end the fingerprint of a pattern.
 ghost use Rattle.std.specs.Prelude.{◌+◌, ℕ, List};
 ghost use Rattle.literal_fingerprints.specs.FingerprintsValue.{FingerprintsValue};
 ghost use Rattle.literal_fingerprints.specs.Inside.Lanes.{HasLanes};
@@ -17,7 +17,7 @@ pub struct LookedUp {
 }
 
 impl LookedUp {
-    /// Before a span there are no bytes, and so no buckets.
+    /// The buckets before a span: none, since there are no bytes.
     #[inline(always)]
     pub fn before_span() -> LookedUp
         ensures { (f : FingerprintsValue) (haystack : List ℕ) (start : ℕ) → IsLookedUp result f haystack start start }
@@ -31,8 +31,8 @@ impl LookedUp {
         }
     }
 
-    /// For each of 16 bytes the buckets that four bytes share, of which it is the last. The first three may lie in the
-    /// 16 bytes before.
+    /// For each of 16 bytes, the buckets that it shares with the three bytes before. The first three may be in the 16
+    /// bytes before.
     #[inline(always)]
     pub fn shared_after(self, before: LookedUp) -> u8x16
         ensures { (f : FingerprintsValue) (haystack : List ℕ) (start at : ℕ)

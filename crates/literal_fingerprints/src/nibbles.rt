@@ -1,4 +1,4 @@
-//! The buckets of bytes, by the two halves of each.
+//! The buckets of bytes, by the two nibbles of each.
 ghost use Rattle.std.specs.Prelude.{◌≡◌, ◌⊎◌, ℕ, ◌+◌, ◌<◌, ◌≤◌, bit_and, length, slice_index, true};
 ghost use Rattle.literal_base.specs.Occurs.{same_byte};
 ghost use Rattle.literal_fingerprints.specs.FingerprintsValue.{buckets_of, table_in};
@@ -6,10 +6,10 @@ ghost use Rattle.literal_fingerprints.specs.Inside.Nibbles.{half_table};
 
 use literal_base::alphabet::opposite_ascii_case;
 
-/// How many halves of bytes there are.
+/// The number of nibbles.
 pub const HALVES: usize = 16;
 
-/// For each half of a byte a set of eight buckets, as bits. A byte is in the buckets that both of its halves are in.
+/// For each nibble a bitmask of eight buckets. A byte is in the buckets that both of its nibbles have.
 #[derive(Clone, Copy)]
 pub struct Nibbles {
     pub low: [u8; HALVES],
@@ -17,7 +17,7 @@ pub struct Nibbles {
 }
 
 impl Nibbles {
-    /// Those in 32 of these bytes, from a place on.
+    /// The table in 32 of these bytes, from an index on.
     #[inline(always)]
     pub fn from_bytes(bytes: &[u8], at: usize) -> Nibbles
         requires { at + 32 ≤ length bytes.now }
@@ -29,7 +29,7 @@ impl Nibbles {
         Nibbles { low, high }
     }
 
-    /// How many bits are set in the sets of the low halves.
+    /// The number of bits that are set for low nibbles.
     pub fn low_bits(&self) -> u32 {
         let [a, b, c, d, e, f, g, h, i, j, k, l, m, n, o, p] = self.low;
         let front = u64::from_le_bytes([a, b, c, d, e, f, g, h]);
@@ -44,8 +44,8 @@ impl Nibbles {
         self.low[(byte % 16) as usize] & self.high[(byte / 16) as usize]
     }
 
-    /// Buckets in which each byte is that a text can have where a pattern has its byte of this place, in either case
-    /// where case is ignored, and any byte behind the pattern.
+    /// The buckets that every possible byte of a text has at a position of a pattern: the pattern's byte, in either
+    /// case if case is ignored, or any byte after the pattern.
     pub fn shared(&self, ignore_case: bool, pattern: &[u8], place: usize) -> u8
         ensures { (byte : ℕ)
             → (place < length pattern.now → same_byte ignore_case byte (slice_index pattern.now place) ≡ true)
@@ -59,7 +59,7 @@ impl Nibbles {
         }
     }
 
-    /// Buckets that each byte has.
+    /// The buckets that every byte has.
     fn of_any_byte(&self) -> u8
         ensures { (byte : ℕ) → bit_and result (buckets_of (half_table self.now) byte) ≡ result }
     {
@@ -71,7 +71,7 @@ impl Nibbles {
     }
 }
 
-/// The other byte that is the same where case is ignored, and else the byte.
+/// The other byte that is equal if case is ignored, otherwise the byte itself.
 pub fn other_case(ignore_case: bool, byte: u8) -> u8
     ensures { (a : ℕ) → same_byte ignore_case a byte ≡ true → (a ≡ byte) ⊎ (a ≡ result) }
 {

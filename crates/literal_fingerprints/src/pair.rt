@@ -1,6 +1,6 @@
 //! Two or three rare bytes of a pattern, and the scan by them.
 ghost use Rattle.std.specs.Prelude.{◌≡◌, ℕ, ◌+◌, ◌-◌, ◌*◌, ◌<◌, ◌≤◌, List, MatchOption};
-ghost use Rattle.std.specs.Prelude.{◌≢◌, length, min, slice_index, true};
+ghost use Rattle.std.specs.Prelude.{◌≢◌, length, max, min, slice_index, true};
 ghost use Rattle.literal_base.specs.Occurs.{IsValidSpan, same_byte};
 ghost use Rattle.literal_fingerprints.specs.Inside.Hits.{AreHits, hit, pair_hit_at};
 ghost use Rattle.literal_fingerprints.specs.Inside.Lanes.{HasLanes};
@@ -17,10 +17,10 @@ use std::simd::prelude::*;
 /// The largest offset of the first byte of a pair in its pattern.
 const LAST: usize = 2;
 
-/// How many bytes a pair takes as bytes.
+/// The size of a pair in bytes.
 pub const PAIR_BYTES: usize = 8;
 
-/// Below this sum of their ranks two bytes are so rare that a third one does not help.
+/// If the ranks of two bytes add up to less than this, they are so rare that a third byte does not help.
 const RARE: usize = 455;
 
 /// Fewer than this many bytes of a pattern are skipped.
@@ -29,8 +29,9 @@ const MOST_SKIPPED: usize = 64;
 /// The largest distance between the two bytes of a pair.
 const APART: usize = 3;
 
-/// A byte of a pattern. It is compared with the bytes of a haystack once the bits of a mask are set in these. The mask
-/// has the bits in which the byte and its other case differ: none where case is kept, and for a byte that is no letter.
+/// A byte of a pattern. Before a byte of a haystack is compared with it, the bits of a mask are set in that byte. The
+/// mask has the bits in which the byte and its other case differ. It has none if case is kept, or if the byte is no
+/// letter.
 #[derive(Clone, Copy)]
 pub struct RareByte {
     pub byte: u8,
@@ -51,22 +52,21 @@ impl RareByte {
     }
 }
 
-/// Two bytes of a pattern, and maybe one between them, by which a scan tells at which places of a haystack the pattern
-/// may begin.
+/// Two bytes of a pattern, and perhaps one between them. By these a scan finds the offsets of a haystack at which the
+/// pattern may begin.
 #[derive(Clone, Copy)]
 pub struct RarePair {
     pub first: RareByte,
     pub second: RareByte,
-    /// The offset of the first byte in the pattern: at most two. A larger number means two.
+    /// The offset of the first byte in the pattern, at most two. A larger number means two.
     pub offset: u8,
-    /// How far behind the first byte the second one is: at most three bytes. A larger number means three.
+    /// The distance from the first byte to the second, at most three bytes. A larger number means three.
     pub apart: u8,
-    /// The byte behind the first one, with the same mask, if the second one is two bytes or more behind the first. 0
-    /// stands for any byte.
+    /// The byte right after the first one, with the same mask, if the distance is at least two. 0 stands for any byte.
     pub between: u8,
 }
 
-/// Where 16 bytes of a haystack are each byte of a pair: lanes of 255, and of 0 elsewhere.
+/// Where 16 bytes of a haystack are each byte of a pair: lanes are 255 there, and 0 elsewhere.
 #[derive(Clone, Copy)]
 struct Compared {
     first: u8x16,
@@ -89,8 +89,8 @@ impl Compared {
         }
     }
 
-    /// Lanes that are not 0 where the bytes of a pair are, the second in the lane, and the first so many lanes before
-    /// it. The first may lie in the 16 bytes before.
+    /// Lanes that are not 0 where the bytes of a pair are: the second in the lane, and the first `apart` lanes before
+    /// it. The first may be in the 16 bytes before.
     #[inline(always)]
     fn pairs_after(self, before: Compared, by_three: bool, apart: usize) -> u8x16
         requires near { apart ≤ 3 }
@@ -111,7 +111,7 @@ impl Compared {
 }
 
 impl RarePair {
-    /// The pair of a pattern that is not empty, with case kept or ignored.
+    /// Returns the pair of a pattern, with case kept or ignored, or `None` if the pattern is empty.
     pub fn new(ignore_case: bool, pattern: &[u8]) -> Option<RarePair>
         ensures { MatchOption result (length pattern.now ≡ 0) (λ pair. IsPairOf pair ignore_case pattern.now) }
     {
@@ -129,7 +129,7 @@ impl RarePair {
         })
     }
 
-    /// This pair as bytes, by which [`RarePair::from_bytes`] makes it again. The first is not 0.
+    /// Returns the pair as bytes, for [`RarePair::from_bytes`]. The first of them is not 0.
     pub fn to_bytes(&self) -> [u8; PAIR_BYTES]
         ensures pair { pair_in result ≡ self.now }
         ensures some { 0 < slice_index result 0 }
@@ -147,7 +147,7 @@ impl RarePair {
         ]
     }
 
-    /// The pair of these bytes, whatever they are. The first means nothing.
+    /// Returns the pair in any bytes. The first of them is not used.
     #[inline(always)]
     pub fn from_bytes(bytes: &[u8; PAIR_BYTES]) -> RarePair
         ensures { result ≡ pair_in bytes.now }
@@ -167,11 +167,11 @@ impl RarePair {
         }
     }
 
-    /// A place of the span, or its end, before which no pattern with this pair begins that lies whole in the span. The
-    /// span has to be valid. The scan stops at the first place at which the haystack has the bytes of the pair, or
-    /// before. Bytes are read 16 at a time, and 32 at a time behind the first 16, each once. Of the last bytes, fewer
-    /// than 16, each is compared with the second byte alone. For each distance there is a loop of its own, which shifts
-    /// by a constant.
+    /// Returns an offset of the span, or its end, before which no pattern with this pair begins that lies whole in the
+    /// span. The span has to be valid. The scan stops at the first offset at which the haystack has the bytes of the
+    /// pair, or before. Each byte is read once: 16 at a time, and 32 at a time after the first 16. The last bytes,
+    /// fewer than 16, are compared only with the second byte. Each distance has its own loop, which shifts by a
+    /// constant.
     pub fn next(&self, haystack: &[u8], span: Span, tally: &mut Tally) -> usize
         requires { IsValidSpan haystack.now span }
         ensures inside { (span.start ≤ result) × (result ≤ span.end) }
@@ -204,7 +204,7 @@ impl RarePair {
         }
     }
 
-    /// The same by these masks and this distance, with the byte between the two or without.
+    /// The same with these masks and this distance, and with or without the byte between the two.
     #[inline(always)]
     fn scan(
         &self,
@@ -264,7 +264,7 @@ impl RarePair {
         self.scan_rest(second_mask, behind, haystack, at + LANES, span, tally)
     }
 
-    /// Compares the bytes of a span from a place on with the second byte of the pair, which is so far behind the start
+    /// Compares the bytes of a span from an offset on with the second byte of the pair, which is at the offset `behind`
     /// of a pattern.
     fn scan_rest(
         &self,
@@ -300,7 +300,7 @@ impl RarePair {
         span.end
     }
 
-    /// Where 16 bytes of a haystack are each byte, by these masks.
+    /// Where 16 bytes of a haystack are each byte, with these masks.
     #[inline(always)]
     fn compare(&self, first_mask: u8, second_mask: u8, bytes: u8x16) -> Compared
         ensures { (haystack : List ℕ) (start at : ℕ) → start ≤ at → HasLanes bytes (λ k. slice_index haystack (at + k))
@@ -314,11 +314,10 @@ impl RarePair {
     }
 }
 
-/// How many bytes of a pattern come before those among which its pair is chosen: none if the first ones have a rare
-/// pair, and else as many as there are before the rarest pair.
+/// How many first bytes of a pattern are skipped when its pair is chosen: none if a pair of the first ones is rare,
+/// otherwise those before the rarest pair.
 pub fn bytes_before_pair(pattern: &[u8]) -> u8
-    ensures few { 0 < length pattern.now → result < length pattern.now }
-    ensures none { length pattern.now ≡ 0 → result ≡ 0 }
+    ensures { result < max (length pattern.now) 1 }
 {
     if pattern.len() < 2 {
         return 0;
@@ -336,7 +335,7 @@ pub fn bytes_before_pair(pattern: &[u8]) -> u8
     skipped
 }
 
-/// The sum of the ranks of the rarest two bytes after so many first ones.
+/// The sum of the ranks of the rarest two bytes after the skipped ones.
 fn pair_rank(pattern: &[u8], skipped: usize) -> usize
     requires { skipped < length pattern.now }
 {
@@ -362,7 +361,8 @@ fn zeros_before_both(front: u8x16, back: u8x16) -> usize
     LANES + zeros_before(back)
 }
 
-/// The offsets of the first and the last of two or three rare bytes of a pattern. A pattern of one byte has one.
+/// The offsets of the first and the last of two or three rare bytes of a pattern. They are equal in a pattern of one
+/// byte.
 fn rarest_places(pattern: &[u8]) -> (usize, usize)
     requires { 0 < length pattern.now }
     ensures first { result.0 ≤ 2 }
@@ -378,7 +378,7 @@ fn rarest_places(pattern: &[u8]) -> (usize, usize)
 }
 
 /// The offsets of the first and the last of three rare bytes of a pattern: two neighbours, and one of the two bytes
-/// behind them.
+/// after them.
 fn rarest_three(pattern: &[u8]) -> (usize, usize)
     requires { 3 ≤ length pattern.now }
     ensures first { result.0 ≤ 2 }
@@ -399,7 +399,7 @@ fn rarest_three(pattern: &[u8]) -> (usize, usize)
     rarest
 }
 
-/// The rarer of the byte at a place and the next one.
+/// The rarer of the byte at an offset and the next one.
 fn rarer_behind(pattern: &[u8], at: usize) -> usize
     requires { at < length pattern.now }
     ensures from { at ≤ result }
@@ -413,7 +413,7 @@ fn rarer_behind(pattern: &[u8], at: usize) -> usize
     }
 }
 
-/// The offsets of two rare bytes of a pattern, the first before the second or the same. A pattern of one byte has one.
+/// The offsets of two rare bytes of a pattern, in order. They are equal in a pattern of one byte.
 fn rarest_two(pattern: &[u8]) -> (usize, usize)
     requires { 0 < length pattern.now }
     ensures first { result.0 ≤ 2 }
@@ -434,8 +434,8 @@ fn rarest_two(pattern: &[u8]) -> (usize, usize)
     rarest
 }
 
-/// The byte between two of a pattern, behind the first, if it is compared, too: if the two alone are not rare, and the
-/// mask of the first fits it. Else 0.
+/// The byte right after the first of the two, if it is compared too: if the two alone are not rare, and the mask of the
+/// first fits it. Otherwise 0.
 fn between_byte(ignore_case: bool, pattern: &[u8], first: usize, second: usize, mask: u8) -> u8
     requires ordered { first ≤ second }
     requires inside { second < length pattern.now }
@@ -454,7 +454,7 @@ fn between_byte(ignore_case: bool, pattern: &[u8], first: usize, second: usize, 
     }
 }
 
-/// The offset of the rarest of the first three bytes that come at most three bytes before a place.
+/// The offset of the rarest of the first three bytes that are at most three bytes before an offset.
 fn rarest_before(pattern: &[u8], place: usize) -> usize
     requires some { 0 < place }
     requires short { place ≤ 5 }
@@ -472,8 +472,8 @@ fn rarest_before(pattern: &[u8], place: usize) -> usize
     rarest
 }
 
-/// How common a byte of the pattern is: a rank up to 255, and 256 for the byte 0, which is more common than all others
-/// where it occurs at all.
+/// How common a byte of the pattern is: its rank, or 256 for the byte 0, which is more common than all others where it
+/// occurs at all.
 fn rank_at(pattern: &[u8], at: usize) -> usize
     requires { at < length pattern.now }
     ensures { result ≤ 256 }

@@ -5,10 +5,10 @@ ghost use Rattle.literal_fingerprints.specs.Inside.Lanes.{HasBack, HasLanes, Has
 use literal_base::count::Tally;
 use std::simd::prelude::*;
 
-/// How many lanes a wide vector has.
+/// The number of lanes of a wide vector.
 pub const WIDE: usize = 32;
 
-/// The bytes of a haystack from a place on, each of which so counts as scanned.
+/// The bytes of a haystack from an offset on. Each counts as scanned.
 #[inline(always)]
 pub fn load_wide(haystack: &[u8], at: usize, tally: &mut Tally) -> u8x32
     requires { at + 32 ≤ length haystack.now }
@@ -21,7 +21,7 @@ pub fn load_wide(haystack: &[u8], at: usize, tally: &mut Tally) -> u8x32
     u8x32::from_slice(&haystack[at..])
 }
 
-/// The bits of both.
+/// The bits that both have.
 #[inline(always)]
 pub fn both_wide(one: u8x32, other: u8x32) -> u8x32
     ensures { HasWide result (λ k. bit_and (slice_index one k) (slice_index other k)) }
@@ -29,7 +29,7 @@ pub fn both_wide(one: u8x32, other: u8x32) -> u8x32
     one & other
 }
 
-/// The lanes of a vector of 16 twice.
+/// The lanes of a vector of 16, twice.
 #[inline(always)]
 pub fn twice(half: u8x16) -> u8x32
     ensures { HasWide result (λ k. slice_index half (k % 16)) }
@@ -53,7 +53,7 @@ pub fn back_half(lanes: u8x32) -> u8x16
     ])
 }
 
-/// The entry of a table at the low half of each byte.
+/// The entry of a table at the low nibble of each byte.
 #[inline(always)]
 pub fn by_low_wide(table: &[u8; 16], bytes: u8x32) -> u8x32
     ensures { HasWide result (λ k. slice_index table.now (slice_index bytes k % 16)) }
@@ -61,7 +61,7 @@ pub fn by_low_wide(table: &[u8; 16], bytes: u8x32) -> u8x32
     twice(u8x16::from_slice(table)).swizzle_dyn_within::<16>(bytes & u8x32::splat(15))
 }
 
-/// The same at the high half.
+/// The entry of a table at the high nibble of each byte.
 #[inline(always)]
 pub fn by_high_wide(table: &[u8; 16], bytes: u8x32) -> u8x32
     ensures { HasWide result (λ k. slice_index table.now (slice_index bytes k / 16 % 16)) }

@@ -1,3 +1,3 @@
--- What models and private functions alone cite.
+-- Definitions that only models and private functions use.
 pub mod Blocks
 pub mod Foldings

@@ -1,3 +1,4 @@
 pub mod FoldedSearchValue
 pub mod Folding
 pub mod Inside
+pub mod Replaced

@@ -1,4 +1,4 @@
-//! Bytes that a reader gave, folded as far as no later byte can change them.
+//! Bytes of a reader, folded as far as no later byte can change them.
 ghost use Rattle.std.specs.Prelude.{◌≡◌, ◌+◌, ◌++◌, ◌<◌, ◌≤◌, [], ℕ, List, drop, length, min, take, IfOk, OnErr, OnOk};
 ghost use Rattle.std.specs.Bool.{MatchBool};
 ghost use Rattle.std.specs.Io.KnownBytes.{Consumes, IsAtEnd, Keeps};
@@ -9,11 +9,11 @@ use crate::fold::fold_in_place;
 use std::alloc::{AllocError, Global};
 use std::io::{self, Read};
 
-/// How many bytes are read at a time, at most.
+/// The largest number of bytes that are read at a time.
 const BLOCK: usize = 1 << 12;
 
-/// The bytes up to `start` were given, those from there up to `folded` are folded and ready to be given, and those
-/// from there up to `end` were read, and are not folded yet.
+/// The bytes up to `start` were given. Those from there up to `folded` are folded and ready. Those from there up to
+/// `end` were read, and are not folded yet.
 #[derive(Drop)]
 pub(crate) struct Block {
     bytes: Vec<u8>,
@@ -23,7 +23,7 @@ pub(crate) struct Block {
 }
 
 impl Block {
-    /// An empty one.
+    /// An empty block.
     pub(crate) fn new(alloc: Global) -> Result<Block, AllocError>
         ensures block { IfOk result IsBlock }
         ensures ready { IfOk result (λ b. ready b ≡ []) }
@@ -69,7 +69,7 @@ impl Block {
         count
     }
 
-    /// Moves the held bytes to the front, where none is ready.
+    /// Moves the held bytes to the front. No bytes are ready.
     fn make_room(&mut self)
         requires block { IsBlock self.old }
         requires none { ready self.old ≡ [] }
@@ -98,7 +98,7 @@ impl Block {
         self.folded = end;
     }
 
-    /// Reads some more bytes behind the held ones, where none is ready. None is the end of the text.
+    /// Reads more bytes after the held ones. No bytes are ready. If it reads none, the text has ended.
     fn read_more<R: Read>(&mut self, reader: &mut R) -> io::Result<usize>
         requires sound { IsSound self.old }
         requires none { ready self.old ≡ [] }
@@ -116,8 +116,8 @@ impl Block {
         Ok(count)
     }
 
-    /// Reads some more bytes, and folds those that no later byte can change, where none is ready. Answers whether any
-    /// is ready then, or the text is over.
+    /// Reads more bytes, and folds those that no later byte can change. No bytes are ready. Returns whether some are
+    /// ready then, or the text has ended.
     fn read_on<R: Read>(&mut self, reader: &mut R) -> io::Result<bool>
         requires sound { IsSound self.old }
         requires none { ready self.old ≡ [] }
@@ -138,7 +138,7 @@ impl Block {
         Ok(whole > 0)
     }
 
-    /// Reads until some bytes are ready, or the text is over.
+    /// Reads until some bytes are ready, or the text has ended.
     pub(crate) fn fill<R: Read>(&mut self, reader: &mut R) -> io::Result<()>
         requires { IsSound self.old }
         ensures sound { IsSound self.new }
@@ -157,8 +157,8 @@ impl Block {
     }
 }
 
-/// How many of the first bytes of a text can be folded before it is known what follows: all, or all before the last
-/// character, if it may go on.
+/// How many of the first bytes of a text can be folded before the next bytes are known: all, or all before the last
+/// character, if it may be incomplete.
 pub(crate) fn whole_len(text: &[u8]) -> usize
     ensures within { result ≤ length text.now }
     ensures most { length text.now ≤ result + 3 }
@@ -173,7 +173,7 @@ pub(crate) fn whole_len(text: &[u8]) -> usize
     len
 }
 
-/// How many bytes of a character follow its first one.
+/// The number of bytes of a character after its first one.
 fn bytes_behind(lead: u8) -> usize
     ensures { result ≡ bytes_behind_of lead }
 {

@@ -8,8 +8,7 @@ ghost use Rattle.literal_folding.specs.Inside.Foldings.{IsRowIndex};
 use crate::foldings::FOLDINGS;
 use std::alloc::AllocError;
 
-/// The simple case folding of a character, if it has as many bytes in UTF-8 as the character; otherwise the character
-/// itself.
+/// Returns the simple case folding of a character if it has the same length in UTF-8, otherwise the character itself.
 pub fn fold_char(c: char) -> char
     ensures { result ≡ folded_char c }
 {
@@ -27,7 +26,7 @@ fn fold_code(code: u32) -> u32
     }
 }
 
-/// The index of the first row whose last character is not below a number. Without one, the number of rows.
+/// The index of the first row whose last character is at least a number, or the number of rows if there is none.
 fn row_index(code: u32) -> usize
     ensures { IsRowIndex code result }
 {
@@ -49,7 +48,7 @@ fn fold_in(row: &(u32, u32, u32, u32), code: u32) -> u32
     }
 }
 
-/// The number that the first bytes spell, if they are a character in UTF-8.
+/// The number encoded by the first bytes, if they are a character in UTF-8.
 fn first_code(bytes: &[u8]) -> u32
     ensures { result ≡ first_code_of bytes.now }
 {
@@ -63,7 +62,7 @@ fn first_code(bytes: &[u8]) -> u32
     }
 }
 
-/// The character with which the bytes begin, if they do with a whole one.
+/// The first character of the bytes, if they begin with a whole one.
 fn first_char(bytes: &[u8]) -> Option<char>
     ensures { result ≡ first_char_of bytes.now }
 {
@@ -73,7 +72,7 @@ fn first_char(bytes: &[u8]) -> Option<char>
     bytes.starts_with(encoded).then_some(c)
 }
 
-/// Folds the character with which the bytes begin, if they do with a whole one. There has to be a byte.
+/// Folds the first character of the bytes, if they begin with a whole one. There has to be a byte.
 fn fold_first(bytes: &mut [u8])
     requires { 0 < length bytes.old }
     ensures { bytes.new ≡ with_first_folded bytes.old }
@@ -85,7 +84,7 @@ fn fold_first(bytes: &mut [u8])
     }
 }
 
-/// The same, whatever the first byte is.
+/// The same for any first byte.
 fn fold_first_char(bytes: &mut [u8])
     ensures { bytes.new ≡ with_first_folded bytes.old }
 {
@@ -100,7 +99,7 @@ fn fold_first_char(bytes: &mut [u8])
     }
 }
 
-/// Puts some bytes in place of the first ones.
+/// Overwrites the first bytes.
 fn overwrite(bytes: &mut [u8], first: &[u8])
     requires { length first.now ≤ length bytes.old }
     ensures { bytes.new ≡ first.now ++ drop (length first.now) bytes.old }
@@ -108,7 +107,7 @@ fn overwrite(bytes: &mut [u8], first: &[u8])
     bytes[..first.len()].copy_from_slice(first);
 }
 
-/// Replaces each whole, valid character of the text by its folding. All other bytes stay.
+/// Replaces each whole, valid character of the text by its folding. All other bytes are unchanged.
 pub fn fold_in_place(text: &mut [u8])
     ensures { text.new ≡ folded text.old }
 {
@@ -121,7 +120,7 @@ pub fn fold_in_place(text: &mut [u8])
     }
 }
 
-/// Appends the folded text to the buffer. If memory is refused, the buffer has the same bytes as before.
+/// Appends the folded text to the buffer. If memory is refused, the bytes of the buffer are unchanged.
 pub fn fold_into(text: &[u8], buffer: &mut Vec<u8>) -> Result<(), AllocError>
     ensures ok { OnOk result (buffer.new.items ≡ buffer.old.items ++ folded text.now) }
     ensures error { OnErr result (buffer.new.items ≡ buffer.old.items) }

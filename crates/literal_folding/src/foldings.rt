@@ -1,7 +1,7 @@
 //! The simple case foldings of Unicode 15.0.0 that keep the length in UTF-8, from `checks/case_foldings.py`.
 
-/// The characters with a folding, in rising order. A row has the first and the last of some characters, the step from
-/// each to the next, and the folding of the first; the foldings of the others have the same distances.
+/// The characters with a folding, in ascending order. A row has the first and the last of some characters, the step
+/// between them, and the folding of the first. The foldings of the others have the same distances.
 pub const FOLDINGS: [(u32, u32, u32, u32); 170] = [
     (0x41, 0x5A, 1, 0x61),
     (0xB5, 0xB5, 1, 0x3BC),

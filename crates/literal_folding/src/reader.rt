@@ -1,4 +1,4 @@
-//! A reader that folds what another one gives.
+//! A reader that folds the text of another one.
 ghost use Rattle.std.specs.Prelude.{◌≡◌, IfOk};
 ghost use Rattle.std.specs.Option.{option_map};
 ghost use Rattle.literal_folding.specs.Folding.{folded};
@@ -8,8 +8,8 @@ use std::alloc::{AllocError, Global};
 use std::io::{self, Read};
 use std::marker::Model;
 
-/// A reader that gives the folded text that another reader gives, with as many bytes. Where reading fails, no byte is
-/// lost. Contracts see the folded bytes that are still to be given, if they are known.
+/// A reader that gives the folded text of another reader, with the same length. If reading fails, no byte is lost.
+/// Contracts see the folded bytes that are still to be given, if they are known.
 #[derive(Drop)]
 pub struct FoldedReader<R: Read + Drop> {
     reader: R,
@@ -28,7 +28,7 @@ impl<R: Read + Drop> Model for FoldedReader<R> {
 }
 
 impl<R: Read + Drop> FoldedReader<R> {
-    /// Folds what the reader gives. It asks for memory for 4 KiB.
+    /// Returns a reader that folds the text of the given one. It allocates 4 KiB.
     pub fn new(alloc: Global, reader: R) -> Result<FoldedReader<R>, AllocError>
         ensures { IfOk result (λ f. f ≡ option_map folded (R.remaining reader)) }
     {

@@ -24,11 +24,11 @@ use std::alloc::{AllocError, Global};
 use std::io::Read;
 use std::marker::Model;
 
-/// Searches for leftmost matches of any number of patterns, with Unicode's case ignored: of the folded patterns in a
-/// folded text. Offsets are those in the text. Contracts see the kind of match, and the folded patterns.
+/// Searches for leftmost matches of any number of patterns, with Unicode's case ignored: for the folded patterns in a
+/// folded text. Offsets are those in the text. Contracts see the match kind, and the folded patterns.
 ///
 /// A [`FoldedText`] is folded once, and can be searched by several searches. [`FoldedSearch::find_stream`] folds block
-/// by block, and needs no memory for the whole text.
+/// by block, and does not hold the whole text.
 ///
 /// ```rust
 /// let words = ["пример".as_bytes(), b"example"];
@@ -54,8 +54,8 @@ impl Model for FoldedSearch {
 }
 
 impl FoldedSearch {
-    /// The search for the patterns that the iterator gives, by this kind of match. The iterator has to end. A pattern
-    /// may be any bytes. Errors come as by [`Search::new`].
+    /// Builds a search for the patterns that an iterator gives, with this match kind. The iterator has to end. A
+    /// pattern may be any bytes. The errors are those of [`Search::new`].
     pub fn new<'a, I: IntoIterator<Item = &'a [u8]>>(
         alloc: Global,
         kind: MatchKind,
@@ -71,7 +71,7 @@ impl FoldedSearch {
         Ok(FoldedSearch { search })
     }
 
-    /// The leftmost match in the text: [`FoldedSearch::find_in`] of all of it.
+    /// Returns the leftmost match in the whole text, as [`FoldedSearch::find_in`] does for a span.
     pub fn find(&self, text: &FoldedText) -> Option<Match>
         ensures leftmost { IsLeftmost self.now false text.now (whole_of text.now) result }
         ensures not_empty { IfSome result (λ found. found.start < found.end) }
@@ -79,8 +79,8 @@ impl FoldedSearch {
         self.search.find(text.as_bytes())
     }
 
-    /// The leftmost match in a span of the text, as [`Search::find_in`] says. The span has to be valid: its `start` at
-    /// most its `end`, and that at most the text's length.
+    /// Returns the leftmost match in a span of the text, as [`Search::find_in`] does. The span has to be valid: `start`
+    /// is at most `end`, and `end` at most the text's length.
     pub fn find_in(&self, text: &FoldedText, span: Span) -> Option<Match>
         requires { IsValidSpan text.now span }
         ensures leftmost { IsLeftmost self.now false text.now span result }
@@ -89,7 +89,15 @@ impl FoldedSearch {
         self.search.find_in(text.as_bytes(), span)
     }
 
-    /// Whether a pattern occurs in the text.
+    /// Returns the number of patterns. None of them is empty.
+    pub fn patterns_len(&self) -> usize
+        ensures len { result ≡ length self.now.patterns }
+        ensures patterns { CanBeKept self.now.patterns }
+    {
+        self.search.patterns_len()
+    }
+
+    /// Returns whether a pattern occurs in the text.
     pub fn is_match(&self, text: &FoldedText) -> bool
         ensures { IsTrue result ↔ ((i : ℕ) × (at : ℕ)
             × Occurs self.now.patterns false text.now (whole_of text.now) i at) }
@@ -97,7 +105,7 @@ impl FoldedSearch {
         self.search.is_match(text.as_bytes())
     }
 
-    /// All matches in the text, from the left, none of which overlaps another, as by [`Search::find_iter`].
+    /// Returns an iterator over all matches in the text that do not overlap, like [`Search::find_iter`].
     pub fn find_iter<'s, 't>(&'s self, text: &'t FoldedText) -> Matches<'s, 't>
         ensures { result ≡ record {
           search = kept_case self.now;
@@ -110,7 +118,7 @@ impl FoldedSearch {
         self.search.find_iter(text.as_bytes())
     }
 
-    /// The list of what [`FoldedSearch::find_iter`] gives.
+    /// Returns the list of all matches that [`FoldedSearch::find_iter`] gives.
     pub fn find_all(&self, text: &FoldedText) -> Result<Vec<Match>, AllocError>
         ensures greedy { IfOk result (λ all. IsGreedy self.now false text.now 0 all.items) }
         ensures no_memory { OnErr result (MayRefuseList (kept_case self.now) text.now (whole_of text.now)) }
@@ -118,9 +126,9 @@ impl FoldedSearch {
         self.search.find_all(text.as_bytes())
     }
 
-    /// All matches in the text that a reader gives, as by [`Search::find_stream`]: of the text only a window is kept.
-    /// Offsets are in the whole text. A haystack in memory is a reader too. It asks for memory for the window, and for
-    /// 4 KiB more.
+    /// Returns an iterator over all matches in the text that a reader gives, like [`Search::find_stream`]. Only a
+    /// window of the text is kept. Offsets are in the whole text. A haystack in memory is a reader too. It allocates
+    /// the window, and 4 KiB more.
     pub fn find_stream<R: Read + Drop>(
         &self,
         alloc: Global,
@@ -167,7 +175,7 @@ fn folded_copies<'a, I: IntoIterator<Item = &'a [u8]>>(
     Ok(all)
 }
 
-/// Adds a folded copy of a pattern. Without memory the list stays as it was.
+/// Adds a folded copy of a pattern. If memory is refused, the list is unchanged.
 fn push_folded(alloc: Global, lists: &mut Vec<Vec<u8>>, bytes: &[u8]) -> Result<(), AllocError>
     ensures { IfOk result (λ _. map (λ pattern. pattern.items) lists.new.items
         ≡ map (λ pattern. pattern.items) lists.old.items ++ folded bytes.now ∷ []) }

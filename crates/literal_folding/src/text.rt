@@ -1,13 +1,13 @@
-//! A text once it is folded.
-ghost use Rattle.std.specs.Prelude.{◌≡◌, [], IfOk, OnErr, OnOk};
+//! A folded text.
+ghost use Rattle.std.specs.Prelude.{◌≡◌, ◌<◌, [], IfOk, OnErr, OnOk, length};
 ghost use Rattle.literal_folding.specs.Folding.{folded};
 
 use crate::fold::fold_in_place;
 use std::alloc::{AllocError, Global};
 use std::marker::Model;
 
-/// A text once it is folded: what [`FoldedSearch`](crate::FoldedSearch) searches in. Offsets in it are those in the
-/// text. Contracts see its bytes.
+/// A folded text, for [`FoldedSearch`](crate::FoldedSearch). Offsets in it are those in the text. Contracts see its
+/// bytes.
 #[derive(Drop)]
 pub struct FoldedText {
     bytes: Vec<u8>,
@@ -22,7 +22,7 @@ impl Model for FoldedText {
 }
 
 impl FoldedText {
-    /// An empty one. No memory is asked for.
+    /// Returns an empty text. Allocates nothing.
     pub fn empty(alloc: Global) -> FoldedText
         ensures { result ≡ [] }
     {
@@ -31,19 +31,22 @@ impl FoldedText {
         }
     }
 
-    /// The text, folded.
+    /// Returns the text, folded. Allocates only if it is not empty.
     pub fn new(alloc: Global, text: &[u8]) -> Result<FoldedText, AllocError>
-        ensures { IfOk result (λ new. new ≡ folded text.now) }
+        ensures ok { IfOk result (λ new. new ≡ folded text.now) }
+        ensures error { OnErr result (0 < length text.now) }
     {
         let mut new = FoldedText::empty(alloc);
         new.set(text)?;
         Ok(new)
     }
 
-    /// Holds another text, folded, in the same memory if there is room for it. If memory is refused, it is unchanged.
+    /// Replaces the text by another one, folded, in the same memory if there is room. If memory is refused, it is
+    /// unchanged.
     pub fn set(&mut self, text: &[u8]) -> Result<(), AllocError>
         ensures ok { OnOk result (self.new ≡ folded text.now) }
         ensures error { OnErr result (self.new ≡ self.old) }
+        ensures some { OnErr result (0 < length text.now) }
     {
         self.bytes
             .reserve(text.len().saturating_sub(self.bytes.len()))?;
@@ -53,7 +56,7 @@ impl FoldedText {
         Ok(())
     }
 
-    /// Its bytes.
+    /// Returns its bytes.
     pub fn as_bytes(&self) -> &[u8]
         ensures { result.now ≡ self.now }
     {

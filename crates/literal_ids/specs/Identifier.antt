@@ -4,15 +4,15 @@ use Rattle.std.specs.Hash.{u32}
 use Rattle.std.specs.Ordering.{nat_cmp}
 use Rattle.std.specs.declared.cmp.Ordering.{Ordering}
 
--- up to 2147483646 the answer is the small index or identifier with that number; above, it is an error that keeps the
--- number
+-- the answer for a number up to 2147483646 is the small index or identifier with it; for a larger one, an error that
+-- keeps it
 abbrev pub IsCheckedNumber : ℕ → Result ℕ ℕ → Type 0
 IsCheckedNumber number answer =
     MatchResult answer (λ id. (number ≤ 2147483646) × (id ≡ number))
     (λ refused. (2147483646 < number) × (refused ≡ number))
 
--- identifiers are equal, and come before one another, as their numbers do; to a hasher each writes its number as a
--- `u32`, so equal ones write the same
+-- identifiers are equal and ordered as their numbers are. Each writes its number to a hasher as a `u32`, so equal ones
+-- write the same
 pub record IsComparedByNumber (eq : ℕ → ℕ → Bool) (partial_cmp : ℕ → ℕ → Option Ordering) (cmp : ℕ → ℕ → Ordering)
     (hash_input : ℕ → List (List ℕ)) : Type 0 where
   pub equal : (a b : ℕ) → IsTrue (eq a b) ↔ (a ≡ b)

@@ -1,14 +1,14 @@
-//! Conversions between integers, each under a name that says what it keeps of the number.
+//! Conversions between integers. Their names say which part of the number they keep.
 ghost use Rattle.std.specs.Prelude.{◌≡◌, ◌<◌, ◌^◌, ◌%◌, ◌/◌, ℕ, ℤ, pos, FitsSigned};
 ghost use Rattle.std.specs.Int.{w8, w32, w64, IsNonNegative};
 ghost use Rattle.literal_ids.specs.Bits.{bits_of, number_of};
 
 /// Conversions of a `u8`.
 pub trait U8 {
-    /// The number that a value is.
+    /// The number of a value.
     ghost number: { Self → ℕ };
 
-    /// The number as it is, in the other type.
+    /// The same number in the other type.
     fn as_usize(self) -> usize
         ensures { result ≡ number self };
 }
@@ -23,10 +23,10 @@ impl U8 for u8 {
 
 /// Conversions of a `u16`.
 pub trait U16 {
-    /// The number that a value is.
+    /// The number of a value.
     ghost number: { Self → ℕ };
 
-    /// The number as it is, in the other type.
+    /// The same number in the other type.
     fn as_usize(self) -> usize
         ensures { result ≡ number self };
 
@@ -57,10 +57,10 @@ impl U16 for u16 {
 
 /// Conversions of a `u32`.
 pub trait U32 {
-    /// The number that a value is.
+    /// The number of a value.
     ghost number: { Self → ℕ };
 
-    /// The number as it is, in the other type.
+    /// The same number in the other type.
     fn as_usize(self) -> usize
         ensures { result ≡ number self };
 
@@ -99,10 +99,10 @@ impl U32 for u32 {
 
 /// Conversions of a `u64`.
 pub trait U64 {
-    /// The number that a value is.
+    /// The number of a value.
     ghost number: { Self → ℕ };
 
-    /// The number as it is, in the other type.
+    /// The same number in the other type.
     fn as_usize(self) -> usize
         ensures { result ≡ number self };
 
@@ -149,7 +149,7 @@ impl U64 for u64 {
 
 /// Conversions of an `i8`.
 pub trait I8 {
-    /// The number that a value is.
+    /// The number of a value.
     ghost number: { Self → ℤ };
 
     /// The number, which must not be negative.
@@ -157,12 +157,12 @@ pub trait I8 {
         requires { IsNonNegative (number self) }
         ensures { pos result ≡ number self };
 
-    /// The 8 bits, read without a sign: the number n where it is not negative, else n + 2^8.
+    /// The 8 bits as an unsigned number: n if the number n is not negative, otherwise n + 2^8.
     fn to_bits(self) -> u8
         ensures value { pos result ≡ bits_of 8 (number self) }
         ensures range { FitsSigned w8 (number self) };
 
-    /// The number of these 8 bits: n where it is below 2^7, else n - 2^8.
+    /// The signed number with these 8 bits: n if n is below 2^7, otherwise n - 2^8.
     fn from_bits(n: u8) -> i8
         ensures { result ≡ number_of 8 (pos n) };
 }
@@ -185,7 +185,7 @@ impl I8 for i8 {
 
 /// Conversions of an `i32`.
 pub trait I32 {
-    /// The number that a value is.
+    /// The number of a value.
     ghost number: { Self → ℤ };
 
     /// The number, which must not be negative.
@@ -193,12 +193,12 @@ pub trait I32 {
         requires { IsNonNegative (number self) }
         ensures { pos result ≡ number self };
 
-    /// The 32 bits, read without a sign: the number n where it is not negative, else n + 2^32.
+    /// The 32 bits as an unsigned number: n if the number n is not negative, otherwise n + 2^32.
     fn to_bits(self) -> u32
         ensures value { pos result ≡ bits_of 32 (number self) }
         ensures range { FitsSigned w32 (number self) };
 
-    /// The number of these 32 bits: n where it is below 2^31, else n - 2^32.
+    /// The signed number with these 32 bits: n if n is below 2^31, otherwise n - 2^32.
     fn from_bits(n: u32) -> i32
         ensures { result ≡ number_of 32 (pos n) };
 }
@@ -221,7 +221,7 @@ impl I32 for i32 {
 
 /// Conversions of an `i64`.
 pub trait I64 {
-    /// The number that a value is.
+    /// The number of a value.
     ghost number: { Self → ℤ };
 
     /// The number, which must not be negative.
@@ -229,12 +229,12 @@ pub trait I64 {
         requires { IsNonNegative (number self) }
         ensures { pos result ≡ number self };
 
-    /// The 64 bits, read without a sign: the number n where it is not negative, else n + 2^64.
+    /// The 64 bits as an unsigned number: n if the number n is not negative, otherwise n + 2^64.
     fn to_bits(self) -> u64
         ensures value { pos result ≡ bits_of 64 (number self) }
         ensures range { FitsSigned w64 (number self) };
 
-    /// The number of these 64 bits: n where it is below 2^63, else n - 2^64.
+    /// The signed number with these 64 bits: n if n is below 2^63, otherwise n - 2^64.
     fn from_bits(n: u64) -> i64
         ensures { result ≡ number_of 64 (pos n) };
 }
@@ -257,7 +257,7 @@ impl I64 for i64 {
 
 /// Conversions of a `usize`.
 pub trait Usize {
-    /// The number that a value is.
+    /// The number of a value.
     ghost number: { Self → ℕ };
 
     /// The number, which has to be below 2^8.
@@ -275,7 +275,7 @@ pub trait Usize {
         requires { number self < 2 ^ 32 }
         ensures { result ≡ number self };
 
-    /// The number as it is, in the other type.
+    /// The same number in the other type.
     fn as_u64(self) -> u64
         ensures { result ≡ number self };
 }

@@ -1,5 +1,5 @@
-//! Laws of conversions and identifiers. Each function's contract is the law. It does nothing, but for
-//! those on the ends, which give the constants that a contract can't name.
+//! Laws of conversions and identifiers. The contract of each function is the law. The functions do nothing, except for
+//! those on the ends, which return constants that a contract can't name.
 ghost use Rattle.std.specs.Prelude.{◌≡◌, ◌<◌, ◌^◌, ◌-◌, ℕ, ℤ, ◌≤ℤ◌, ◌<ℤ◌, pos, neg_ℤ};
 ghost use Rattle.literal_ids.specs.Bits.{bits_of, number_of};
 ghost use Rattle.literal_ids.specs.Clones.{ClonesExactly};
@@ -12,18 +12,18 @@ use crate::primitives::{
 };
 use std::hash::Hash;
 
-/// The number of the bits of a number is the number itself, for every count of bits.
+/// `number_of` the bits of a number is the number itself, for every number of bits.
 pub fn bits_give_their_number_back()
     ensures { (k : ℕ) (n : ℤ) → 0 < k → neg_ℤ (pos (2 ^ (k - 1))) ≤ℤ n → n <ℤ pos (2 ^ (k - 1))
         → number_of k (bits_of k n) ≡ n }
 {}
 
-/// The bits of the number of some bits are these bits, for every count of bits.
+/// The bits of `number_of` some bits are these bits, for every number of bits.
 pub fn a_number_gives_its_bits_back()
     ensures { (k m : ℕ) → 0 < k → m < 2 ^ k → bits_of k (number_of k (pos m)) ≡ pos m }
 {}
 
-/// The least and the greatest small index, how many there are, and the bytes that one takes.
+/// The least and the greatest small index, their number, and the size of one in bytes.
 pub fn ends_of_small_indices() -> (SmallIndex, SmallIndex)
     ensures ends { result ≡ (0, 2147483646) }
     ensures limit { SmallIndex.LIMIT ≡ 2147483647 }
@@ -32,8 +32,7 @@ pub fn ends_of_small_indices() -> (SmallIndex, SmallIndex)
     (SmallIndex::ZERO, SmallIndex::MAX)
 }
 
-/// The least and the greatest identifier of a pattern, how many there are, and the bytes that one
-/// takes.
+/// The least and the greatest identifier of a pattern, their number, and the size of one in bytes.
 pub fn ends_of_pattern_ids() -> (PatternID, PatternID)
     ensures ends { result ≡ (0, 2147483646) }
     ensures limit { PatternID.LIMIT ≡ 2147483647 }
@@ -42,8 +41,7 @@ pub fn ends_of_pattern_ids() -> (PatternID, PatternID)
     (PatternID::ZERO, PatternID::MAX)
 }
 
-/// The least and the greatest identifier of a state, how many there are, and the bytes that one
-/// takes.
+/// The least and the greatest identifier of a state, their number, and the size of one in bytes.
 pub fn ends_of_state_ids() -> (StateID, StateID)
     ensures ends { result ≡ (0, 2147483646) }
     ensures limit { StateID.LIMIT ≡ 2147483647 }
@@ -52,8 +50,7 @@ pub fn ends_of_state_ids() -> (StateID, StateID)
     (StateID::ZERO, StateID::MAX)
 }
 
-/// Small indices and identifiers are equal, and come before one another, as their numbers do; equal
-/// ones hash alike.
+/// Small indices and identifiers are equal and ordered as their numbers are, and equal ones hash alike.
 pub fn identifiers_are_compared_by_number()
     ensures small_index { IsComparedByNumber ⟦<SmallIndex as PartialEq>⟧.eq ⟦<SmallIndex as PartialOrd>⟧.partial_cmp
         ⟦<SmallIndex as Ord>⟧.cmp ⟦<SmallIndex as Hash>⟧.hash_input }
@@ -63,7 +60,7 @@ pub fn identifiers_are_compared_by_number()
         ⟦<StateID as Ord>⟧.cmp ⟦<StateID as Hash>⟧.hash_input }
 {}
 
-/// Every iteration gives each of what is left in turn, then nothing for ever.
+/// Every iteration gives each element that is left in turn, and then always `None`.
 pub fn iterations_end<T: 'static>()
     ensures small_index { GivesEachThenNone (λ index. index) ⟦<SmallIndexIter as Iterator>⟧.next_gives }
     ensures pattern_id { GivesEachThenNone (λ id. id) ⟦<PatternIDIter as Iterator>⟧.next_gives }
@@ -74,7 +71,7 @@ pub fn iterations_end<T: 'static>()
         ⟦<WithStateIDIter<'static, T> as Iterator>⟧.next_gives }
 {}
 
-/// A clone of an identifier, a small index or an error takes no memory, and is the same value.
+/// A clone of an identifier, a small index or an error is the same value, and allocates nothing.
 pub fn clones_are_equal()
     ensures small_index { ClonesExactly ⟦<SmallIndex as Clone>⟧.is_clone ⟦<SmallIndex as Clone>⟧.is_infallible }
     ensures pattern_id { ClonesExactly ⟦<PatternID as Clone>⟧.is_clone ⟦<PatternID as Clone>⟧.is_infallible }

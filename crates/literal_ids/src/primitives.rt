@@ -1,5 +1,5 @@
-//! Identifiers: numbers that fit 32 bits, signed ones too, so that one can be stored small and any
-//! count of them fits a `usize`.
+//! Identifiers: numbers that fit a `u32` and an `i32`. So they are small in memory, and any number of them fits a
+//! `usize`.
 
 mod pattern_id;
 mod small_index;

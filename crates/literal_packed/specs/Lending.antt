@@ -1,4 +1,4 @@
--- What holds of a builder that is lent to a call, which lends it back where it succeeds.
+-- A builder that is lent to a call, which returns it on success.
 use Rattle.std.specs.Prelude.{ℕ, ◌⊎◌, List, [], Option, Some, Result}
 use Rattle.std.specs.Borrow.{Bor, MutBor, Fml, RestsIfErr}
 use Rattle.std.specs.Iterator.{Drains, Yields}
@@ -8,12 +8,12 @@ use Rattle.literal_packed.specs.State.{WouldKeep}
 use Rattle.literal_packed.specs.declared.api.LentBuilder.{LentBuilder}
 use Rattle.literal_packed.specs.contracts.api.Builder.{the_row}
 
--- if the call that was lent the builder b does not hand it back in its answer, P holds of the builder (`RestsIfErr`)
+-- if the call with the lent builder b does not return it, P holds for the builder (`RestsIfErr`)
 abbrev pub HoldsAfterErr : {E : Type 0} → (BuilderValue → Type 0) → MutBor BuilderValue → Result (MutBor BuilderValue) E
     → Fml
 HoldsAfterErr P b r = RestsIfErr the_row b (λ (x : MutBor BuilderValue). x.ghost_name) r P
 
--- the same for an answer that holds the builder in a struct
+-- the same if the answer has the builder in a struct
 abbrev pub LentHoldsAfterErr : {E : Type 0} → (BuilderValue → Type 0) → MutBor BuilderValue → Result LentBuilder E → Fml
 LentHoldsAfterErr P b r = RestsIfErr the_row b (λ (l : LentBuilder). l.builder.ghost_name) r P
 
@@ -23,8 +23,8 @@ module _ {U T : Type 0} (becomes : U → T → Type 0) (steps : T → Option (Bo
   abbrev pub HoldsAll : Type 0
   HoldsAll = (it : T) × (xs : List (Bor (List ℕ))) × becomes patterns it × AddsAll old xs new × Drains steps it xs
 
-  -- the items that the iterator gave before the refused one were added, in their order; the builder would have kept the
-  -- refused one (of a builder that lives on; `WouldKeepItem` of literal_prefilters is of one that is gone)
+  -- the items before the refused one were added, in their order, and the builder would have kept the refused one. This
+  -- is for a builder that is still in use; `WouldKeepItem` of literal_prefilters is for one that is gone
   pub record HoldsTaken : Type 0 where
     pub iterator : T
     pub items : List (Bor (List ℕ))
@@ -38,8 +38,8 @@ module _ {U T : Type 0} (becomes : U → T → Type 0) (steps : T → Option (Bo
     pub would_keep : WouldKeep new.config.pattern_limit new.state refused.now
 
 module _ {U T : Type 0} (becomes : U → T → Type 0) (steps : T → Option (Bor (List ℕ)) → T → Type 0) (patterns : U) where
-  -- memory was refused where a new builder takes the items of an iterator and builds: for an item that it would keep,
-  -- or after all items, where a searcher can be built
+  -- memory was refused while a new builder builds a searcher from an iterator: for an item that it would keep, or after
+  -- all items, if a searcher can be built
   pub record RefusesSearcher : Type 0 where
     pub builder : BuilderValue
     pub why : HoldsTaken becomes steps patterns (builder_of default_config []) builder

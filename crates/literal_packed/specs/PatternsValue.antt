@@ -1,4 +1,4 @@
--- A collection of patterns, as contracts see it.
+-- A collection of patterns as contracts see it.
 use Rattle.std.specs.Prelude.{ℕ, ◌≤◌, ◌-◌, ◌^◌, List, [], ◌∷◌, ◌++◌, length, map, fold, min, sum_by}
 use Rattle.std.specs.List.{AllPairs, range_with_len}
 use Rattle.std.specs.List.Sorted.{IsPermutation}
@@ -8,14 +8,14 @@ use Rattle.literal_base.specs.Occurs.{NoneIsEmpty, pattern_at}
 use Rattle.literal_base.specs.Leftmost.{IsBetter}
 use Rattle.literal_base.specs.Query.{Query}
 
--- a `Patterns` as contracts see it: the match kind, the patterns by their identifiers, and the identifiers in the order
--- in which the patterns are tried
+-- a `Patterns` as contracts see it: the match kind, the patterns in the order of their identifiers, and the identifiers
+-- in match order, in which the patterns are tried
 pub record PatternsValue : Type 0 where
   pub kind : MatchKind
   pub patterns : List (List ℕ)
   pub order : List ℕ
 
--- what a search for these patterns searches for: their match kind, and the patterns
+-- the query of a search for these patterns: their match kind, and the patterns
 abbrev pub query_of : PatternsValue → Query
 query_of c = record { kind = c.kind; patterns = c.patterns }
 
@@ -28,7 +28,7 @@ abbrev pub with_pattern : PatternsValue → List ℕ → PatternsValue
 with_pattern c bytes =
     record { kind = c.kind; patterns = c.patterns ++ bytes ∷ []; order = c.order ++ length c.patterns ∷ [] }
 
--- the length of the shortest pattern, and `usize::MAX` where there is none
+-- the length of the shortest pattern, or `usize::MAX` if there is none
 abbrev pub minimum_len_of : List (List ℕ) → ℕ
 minimum_len_of patterns = fold (λ n bytes. min n (length bytes)) (2 ^ 64 - 1) patterns
 
@@ -36,21 +36,21 @@ minimum_len_of patterns = fold (λ n bytes. min n (length bytes)) (2 ^ 64 - 1) p
 abbrev pub total_len : List (List ℕ) → ℕ
 total_len patterns = sum_by length patterns
 
--- the patterns with their identifiers, in the order in which they are tried
+-- the patterns with their identifiers, in match order
 abbrev pub in_order : PatternsValue → List (ℕ × List ℕ)
 in_order c = map (λ i. (i, pattern_at c.patterns i)) c.order
 
--- what always holds: each pattern is tried once, none is empty, and the last one has an identifier
+-- the invariant of a collection: each pattern is tried once, none is empty, and the last one has an identifier
 pub record IsWellFormed (c : PatternsValue) : Type 0 where
   pub once : IsPermutation (range_with_len 0 (length c.patterns)) c.order
   pub not_empty : NoneIsEmpty c.patterns
   pub numbered : length c.patterns ≤ 2147483647
 
--- each pattern is tried before those that it is better than
+-- each pattern is tried before those to which it is preferred
 abbrev pub IsInOrder : PatternsValue → Type 0
 IsInOrder c = AllPairs (IsBetter c.kind c.patterns) c.order
 
--- patterns that a search may use: well formed, and in order
+-- patterns for a search: well formed, and in match order
 pub record IsSearchable (c : PatternsValue) : Type 0 where
   pub well_formed : IsWellFormed c
   pub in_order : IsInOrder c

@@ -1,10 +1,10 @@
--- The patterns in 64 buckets, by the sums of their first bytes: `RabinKarp`, as contracts see it.
+-- Patterns in 64 buckets, by the sums of their first bytes: `RabinKarp`, as contracts see it.
 use Rattle.std.specs.Prelude.{◌≡◌, ℕ, ◌<◌, ◌%◌, ◌==◌, List, [], length, map, filter, slice_index_or}
 use Rattle.literal_packed.specs.PatternsValue.{PatternsValue, IsSearchable, minimum_len_of}
 use Rattle.literal_packed.specs.Pairs.{key_of}
 
--- a `RabinKarp` as contracts see it: how many bytes of each pattern are summed, and the entries (sum, identifier) of
--- each bucket
+-- a `RabinKarp` as contracts see it: the number of bytes of each pattern that are summed, and the entries of each
+-- bucket, each with a sum and an identifier
 pub record RabinKarpValue : Type 0 where
   pub minimum_len : ℕ
   pub buckets : List (List (ℕ × ℕ))
@@ -13,7 +13,7 @@ pub record RabinKarpValue : Type 0 where
 abbrev pub bucket_at : RabinKarpValue → ℕ → List (ℕ × ℕ)
 bucket_at b k = slice_index_or b.buckets k []
 
--- each pattern with the sum of its first bytes, in the order in which the patterns are tried
+-- the entry of each pattern, with its key, in match order
 abbrev pub entries_of : PatternsValue → List (ℕ × ℕ)
 entries_of c = map (λ i. (key_of c.patterns i, i)) c.order
 
@@ -21,8 +21,8 @@ entries_of c = map (λ i. (key_of c.patterns i, i)) c.order
 abbrev pub bucket_of : PatternsValue → ℕ → List (ℕ × ℕ)
 bucket_of c k = filter (λ e. e.0 % 64 == k) (entries_of c)
 
--- a `RabinKarp` is made for these patterns: they are one or more and in order, and bucket k has, in match order, those
--- whose key is k modulo 64
+-- a `RabinKarp` is made for these patterns: there is at least one, they are in match order, and bucket k has the
+-- entries whose key is k modulo 64, in match order
 pub record IsMadeFor (c : PatternsValue) (b : RabinKarpValue) : Type 0 where
   pub searchable : IsSearchable c
   pub some : 0 < length c.patterns

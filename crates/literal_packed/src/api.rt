@@ -26,8 +26,7 @@ use std::alloc::{AllocError, Global};
 use std::fmt;
 use std::marker::Model;
 
-/// What a [`Builder`] is made by: which occurrence is the match, and how many patterns it keeps at
-/// most.
+/// The settings of a [`Builder`]: which occurrence is the match, and the largest number of patterns.
 ///
 /// ```rust
 /// let mut builder = Config::new().pattern_limit(1).builder(alloc);
@@ -53,15 +52,13 @@ impl Model for Config {
 }
 
 impl Config {
-    /// How many patterns a builder keeps at most where no other limit is set, 128: a search for a few
-    /// patterns loses its use beyond.
+    /// The default limit of patterns, 128. With more patterns, this kind of search is no longer useful.
     pub const DEFAULT_PATTERN_LIMIT: usize = 128;
 
-    /// The largest limit that may be set, 65535 patterns.
+    /// The largest limit of patterns, 65535.
     pub const MAX_PATTERN_LIMIT: usize = 65535;
 
-    /// The usual configuration: [`MatchKind::LeftmostFirst`], and at most
-    /// [`Config::DEFAULT_PATTERN_LIMIT`] patterns.
+    /// The default configuration: [`MatchKind::LeftmostFirst`], and at most [`Config::DEFAULT_PATTERN_LIMIT`] patterns.
     pub fn new() -> Config
         ensures { result ≡ default_config }
     {
@@ -71,8 +68,8 @@ impl Config {
         }
     }
 
-    /// A builder of this configuration as it is now, with no pattern. A later change of the
-    /// configuration does not reach the builder.
+    /// A builder without patterns, with the present state of this configuration. Later changes of the configuration do
+    /// not affect the builder.
     pub fn builder(&self, alloc: Global) -> Builder
         ensures builder { result ≡ builder_of self.now [] }
         ensures limit { IsPatternLimit self.now.pattern_limit }
@@ -93,8 +90,8 @@ impl Config {
         self
     }
 
-    /// Sets how many patterns a builder keeps at most: from 1 to [`Config::MAX_PATTERN_LIMIT`]. A
-    /// builder that was made before keeps the limit of its making.
+    /// Sets the largest number of patterns that a builder keeps, from 1 to [`Config::MAX_PATTERN_LIMIT`]. Builders that
+    /// exist already keep their limit.
     pub fn pattern_limit(&mut self, n: usize) -> &mut Config
         requires some { 1 ≤ n }
         requires few { n ≤ Config.MAX_PATTERN_LIMIT }
@@ -105,12 +102,12 @@ impl Config {
         self
     }
 
-    /// Changes nothing: Rabin and Karp's search is the only algorithm that there is.
+    /// Changes nothing: the search by Rabin and Karp is the only algorithm here.
     pub fn only_rabin_karp(&mut self, yes: bool) -> &mut Config
         ensures same { result.ghost_name ≡ self.entry.ghost_name }
         ensures now { result.now ≡ self.old }
     {
-        let _ = yes; // (the original takes it)
+        let _ = yes; // (as in the original)
         self
     }
 
@@ -124,7 +121,7 @@ impl Config {
     }
 }
 
-/// The usual configuration, as [`Config::new`].
+/// The default configuration, like [`Config::new`].
 impl Default for Config {
     ghost is_default = { λ config. config ≡ default_config };
 
@@ -133,10 +130,9 @@ impl Default for Config {
     }
 }
 
-/// Collects patterns, and builds a searcher for them. It keeps patterns that are not empty, up to
-/// the limit of its configuration ([`Config::pattern_limit`]). An empty pattern, or one past the limit,
-/// makes it *inert* for good: it then keeps no pattern, and builds no searcher, whatever is added
-/// later.
+/// Collects patterns, and builds a searcher for them. It keeps non-empty patterns, up to the limit of its configuration
+/// ([`Config::pattern_limit`]). An empty pattern, or one above the limit, makes the builder *inert* for good: it then
+/// keeps no pattern, and builds no searcher, whatever is added later.
 ///
 /// ```rust
 /// let mut builder = Builder::new(alloc);
@@ -165,16 +161,15 @@ impl Model for Builder {
 }
 
 impl Builder {
-    /// No pattern, and the usual configuration.
+    /// A builder without patterns, with the default configuration.
     pub fn new(alloc: Global) -> Builder
         ensures { result ≡ builder_of default_config [] }
     {
         Config::new().builder(alloc)
     }
 
-    /// A searcher for the patterns, or `None` where there are none or the builder is inert. The
-    /// builder stays as it is. Memory is asked for only where a searcher can be built; where it is refused
-    /// there is none.
+    /// A searcher for the patterns, or `None` if there are none or the builder is inert. The builder is unchanged.
+    /// Memory is requested only if a searcher can be built; if it is refused, none is built.
     pub fn build(&self) -> Result<Option<Searcher>, AllocError>
         ensures ok { IfOk result (λ built. built ≡ searcher_of self.now) }
         ensures no_memory { IsOk result ⊎ IsBuildable self.now }
@@ -185,7 +180,7 @@ impl Builder {
         }
         let mut patterns = self.patterns.try_clone()?;
         patterns.set_match_kind(self.config.kind)?;
-        // What is hashed of the patterns themselves is no step of a search.
+        // Hashing the patterns themselves is no step of a search.
         let rabin_karp = RabinKarp::new(&patterns, &mut Tally::new())?;
         Ok(Some(Searcher {
             patterns,
@@ -193,18 +188,18 @@ impl Builder {
         }))
     }
 
-    /// Adds a copy of a pattern, unless the builder is inert. An empty pattern, and one past the
-    /// limit of the configuration, makes it so. Where memory is refused, all stays as it was; where the
-    /// pattern is not kept no memory is asked for.
+    /// Adds a copy of a pattern, unless the builder is inert. An empty pattern, or one above the limit of the
+    /// configuration, makes it inert. If memory is refused, the builder is unchanged. Memory is requested only for a
+    /// pattern that is kept.
     pub fn add(&mut self, bytes: &[u8]) -> Result<&mut Builder, AllocError>
-        // After an error the builder is as before.
+        // After an error the builder is unchanged.
         ensures* as_before { sem 𝓛 (HoldsAfterErr (λ b. b ≡ self.old) self.entry result) }
         ensures same { IfOk result (λ b. b.ghost_name ≡ self.entry.ghost_name) }
         ensures ok { IfOk result (λ b. b.now ≡ with_added self.old (bytes.now ∷ [])) }
         ensures no_memory { OnErr result (WouldKeep self.old.config.pattern_limit self.old.state bytes.now) }
     {
-        // Two steps: only where the builder is lent in a struct is there a generated proof of what
-        // holds of it after an error.
+        // Two steps, since there are generated proofs of what holds after an error only if the builder is lent in a
+        // struct.
         unwrapped(self.try_add(bytes))
     }
 
@@ -235,15 +230,14 @@ impl Builder {
         Ok(())
     }
 
-    /// Adds the patterns that the iterator gives, each as [`Builder::add`] does. The iterator has to
-    /// end. Where memory is refused, the patterns before the refused one stay added. None is asked for where
-    /// an item is not kept.
+    /// Adds the patterns that an iterator gives, each like [`Builder::add`]. The iterator has to end. If memory is
+    /// refused, the patterns before the refused one stay added. Memory is requested only for patterns that are kept.
     pub fn extend<'a, I: IntoIterator<Item = &'a [u8]>>(
         &mut self,
         patterns: I,
     ) -> Result<&mut Builder, AllocError>
         requires { CanBeTaken I.into_iter_gives I.IntoIter.can_next I.IntoIter.remaining patterns }
-        // After an error the builder has the patterns before the refused one, which it would keep.
+        // After an error the builder has the patterns before the refused one, and would have kept that one.
         ensures* taken { sem 𝓛 (HoldsAfterErr (HoldsTaken I.into_iter_gives I.IntoIter.next_gives patterns self.old)
             self.entry result) }
         ensures same { IfOk result (λ b. b.ghost_name ≡ self.entry.ghost_name) }
@@ -282,8 +276,7 @@ impl Builder {
         Ok(())
     }
 
-    /// The number of patterns that are kept, at most the limit of the configuration, and 0 where the
-    /// builder is inert.
+    /// The number of patterns: at most the limit of the configuration, and 0 if the builder is inert.
     pub fn len(&self) -> usize
         ensures len { result ≡ length (kept_of self.now.state) }
         ensures kept { IsState self.now.config.pattern_limit self.now.state }
@@ -291,16 +284,15 @@ impl Builder {
         self.patterns.len()
     }
 
-    /// The length of the shortest pattern that is kept, in bytes, and `usize::MAX` where there is
-    /// none.
+    /// The length in bytes of the shortest pattern, or `usize::MAX` if there is none.
     pub fn minimum_len(&self) -> usize
         ensures { result ≡ minimum_len_of (kept_of self.now.state) }
     {
         self.patterns.minimum_len()
     }
 
-    /// A copy: the same configuration and patterns, and inert where this builder is. Memory is asked
-    /// for only where a pattern is kept; the builder stays as it is.
+    /// A copy with the same configuration and patterns, and inert if this builder is. Memory is requested only if there
+    /// is a pattern. The builder is unchanged.
     pub fn try_clone(&self) -> Result<Builder, AllocError>
         ensures copy { IfOk result (λ copy. copy ≡ self.now) }
         ensures no_memory { OnErr result (IsBuildable self.now) }
@@ -313,7 +305,7 @@ impl Builder {
     }
 }
 
-/// Says which configuration it has, and how many patterns.
+/// Shows the configuration and the number of patterns.
 impl fmt::Debug for Builder {
     fn fmt<W: fmt::Write>(&self, f: &mut fmt::Formatter<W>) -> fmt::Result {
         let kind = self.config.kind;
@@ -327,7 +319,7 @@ impl fmt::Debug for Builder {
     }
 }
 
-/// The builder, after an addition.
+/// The builder after an addition.
 #[derive(Drop)]
 struct LentBuilder<'b> {
     builder: &'b mut Builder,
@@ -342,8 +334,8 @@ fn unwrapped(lent: Result<LentBuilder<'_>, AllocError>) -> Result<&mut Builder, 
     }
 }
 
-/// Searches for the patterns that it was built for: from one to the limit of the builder's
-/// configuration, none empty.
+/// Searches for the patterns for which it was built: at least one, at most the limit of the builder's configuration,
+/// and none of them empty.
 #[derive(Drop)]
 pub struct Searcher {
     patterns: Patterns,
@@ -364,9 +356,9 @@ impl Model for Searcher {
 }
 
 impl Searcher {
-    /// A searcher for the patterns that the iterator gives, with the usual configuration: what
-    /// [`Builder::extend`] and [`Builder::build`] of a new builder make. The iterator has to end.
-    /// Memory is asked for only for a pattern that is kept, and where a searcher can be built.
+    /// A searcher for the patterns that an iterator gives, with the default configuration, as [`Builder::extend`] and
+    /// [`Builder::build`] of a new builder make it. The iterator has to end. Memory is requested only for a pattern
+    /// that is kept, and if a searcher can be built.
     pub fn new<'a, I: IntoIterator<Item = &'a [u8]>>(
         alloc: Global,
         patterns: I,
@@ -380,21 +372,21 @@ impl Searcher {
         builder.build()
     }
 
-    /// The usual configuration.
+    /// The default configuration.
     pub fn config() -> Config
         ensures { result ≡ default_config }
     {
         Config::default()
     }
 
-    /// A builder with no pattern and the usual configuration.
+    /// A builder without patterns, with the default configuration.
     pub fn builder(alloc: Global) -> Builder
         ensures { result ≡ builder_of default_config [] }
     {
         Builder::new(alloc)
     }
 
-    /// The leftmost match in the haystack: [`Searcher::find_in`] of all of it.
+    /// The leftmost match in the whole haystack, as [`Searcher::find_in`] finds it in a span.
     ///
     /// ```rust
     /// let built = Searcher::new(alloc, [b"foobar".as_slice(), b"foo"])?;
@@ -416,10 +408,9 @@ impl Searcher {
         )
     }
 
-    /// The leftmost match in a span of the haystack: of the occurrences of patterns that lie whole
-    /// in the span the one that begins first, and of those that begin there the one that the match
-    /// kind prefers. Offsets, in the answer too, are in the whole haystack. The span has to be
-    /// valid: its `start` at most its `end`, and that at most the haystack's length.
+    /// The leftmost match in a span of the haystack. Only occurrences that lie whole in the span count. The one that
+    /// begins first wins; if several begin there, the match kind decides. All offsets are in bytes of the whole
+    /// haystack. The span has to be valid: `start` is at most `end`, and `end` at most the haystack's length.
     ///
     /// ```rust
     /// // Only what lies whole in the span is a match, and its offsets are in the whole haystack.
@@ -435,8 +426,7 @@ impl Searcher {
         self.find_in_counted(haystack, span, &mut tally)
     }
 
-    /// Answers as [`Searcher::find_in`], and adds the steps that it takes to a tally. No byte is
-    /// scanned and no place tried.
+    /// Like [`Searcher::find_in`], and adds its steps to a tally. No byte is scanned and no offset tried.
     pub fn find_in_counted(&self, haystack: &[u8], span: Span, tally: &mut Tally) -> Option<Match>
         requires { IsValidSpan haystack.now span }
         ensures leftmost { IsLeftmost self.now false haystack.now span result }
@@ -449,9 +439,9 @@ impl Searcher {
             .find_at(&self.patterns, haystack, span.start, tally)
     }
 
-    /// All matches in the haystack, from the left, none of which overlaps another: first the leftmost
-    /// match of the haystack, and after each match the leftmost one of what is left behind it. The
-    /// iterator borrows the haystack, and ends with the first `None`.
+    /// An iterator over all matches in the haystack that do not overlap: first the leftmost match, then each time the
+    /// leftmost match after the end of the previous one. The iterator borrows the haystack, and ends with its first
+    /// `None`.
     ///
     /// ```rust
     /// let mut starts = Vec::new(alloc);
@@ -471,8 +461,8 @@ impl Searcher {
         }
     }
 
-    /// The list of what [`Searcher::find_iter`] gives, with the steps that it takes added to a tally,
-    /// those before memory was refused too. Memory is asked for only where there is a match.
+    /// The list of all matches that [`Searcher::find_iter`] gives. Its steps are added to the tally, also those before
+    /// memory was refused. Memory is requested only if there is a match.
     pub fn find_all(&self, haystack: &[u8], tally: &mut Tally) -> Result<Vec<Match>, AllocError>
         ensures greedy { IfOk result (λ all. IsGreedy self.now false haystack.now 0 all.items) }
         ensures exact { IfOk result (λ all. tally.new ≡ counts_after_all tally.old self.now haystack.now 0 all.items) }
@@ -494,8 +484,7 @@ impl Searcher {
         Ok(all)
     }
 
-    /// Which occurrence is the match. A searcher has 1 to [`Config::MAX_PATTERN_LIMIT`] patterns, none
-    /// of them empty.
+    /// Which occurrence is the match. A searcher has 1 to [`Config::MAX_PATTERN_LIMIT`] patterns, none of them empty.
     pub fn match_kind(&self) -> &MatchKind
         ensures kind { result.now ≡ self.now.kind }
         ensures patterns { IsBuildableQuery self.now }
@@ -504,14 +493,14 @@ impl Searcher {
         self.patterns.match_kind()
     }
 
-    /// The length in bytes below which a haystack is too short for a search: 0, since none is.
+    /// The length in bytes below which a haystack is too short for a search: always 0.
     pub fn minimum_len(&self) -> usize
         ensures { result ≡ 0 }
     {
         0
     }
 
-    /// A copy: the same patterns and match kind. Memory may be refused; the searcher stays as it is.
+    /// A copy with the same patterns and match kind. Memory may be refused. The searcher is unchanged.
     pub fn try_clone(&self) -> Result<Searcher, AllocError>
         ensures { IfOk result (λ copy. copy ≡ self.now) }
     {
@@ -524,7 +513,7 @@ impl Searcher {
     }
 }
 
-/// Says which occurrence is the match, and how many patterns there are.
+/// Shows which occurrence is the match, and the number of patterns.
 impl fmt::Debug for Searcher {
     fn fmt<W: fmt::Write>(&self, f: &mut fmt::Formatter<W>) -> fmt::Result {
         let kind = *self.patterns.match_kind();
@@ -533,9 +522,8 @@ impl fmt::Debug for Searcher {
     }
 }
 
-/// What [`Searcher::find_iter`] goes over. Contracts see what is searched for and where, the place
-/// from which the search goes on, in bytes from the beginning of the haystack, and the steps taken so
-/// far. After its first `None` it keeps answering `None`.
+/// The iterator of [`Searcher::find_iter`]. Contracts see the query, the haystack, the offset from which the search
+/// continues, and the steps so far. After its first `None` it always answers `None`.
 #[derive(Drop)]
 pub struct FindIter<'s, 'h> {
     searcher: &'s Searcher,
@@ -556,7 +544,7 @@ impl<'s, 'h> Model for FindIter<'s, 'h> {
 }
 
 impl<'s, 'h> FindIter<'s, 'h> {
-    /// The tally that the iteration has counted its searches in.
+    /// The tally of the steps of the iteration.
     pub fn into_tally(self) -> Tally
         ensures { result ≡ self.entry.counts }
     {

@@ -1,6 +1,5 @@
-//! Laws of the definitions that contracts cite, and of the searches. Each is the contract of a
-//! function: of one that does nothing where the law is about definitions, and else of one that makes
-//! the calls that the law is about.
+//! Laws of definitions and of searches. Each law is the contract of a function. If a law is about definitions, its
+//! function does nothing; otherwise the function makes the calls that the law is about.
 ghost use Rattle.std.specs.Prelude.{◌≡◌, ◌<◌, ◌≤◌, ◌+◌, ◌-◌, ◌*◌, ◌^◌, ◌/◌, ◌%◌, ◌↔◌, ℕ, List, [], ◌∷◌, ◌++◌};
 ghost use Rattle.std.specs.Prelude.{length, map, replicate, sum};
 ghost use Rattle.std.specs.Prelude.{slice_index, codes, true, false, IsTrue, IsNone, Option, Some, None, IfOk};
@@ -32,15 +31,14 @@ use literal_base::laws::{greedy_is_unique, leftmost_is_unique};
 use literal_base::{Match, Span};
 use std::alloc::{AllocError, Global};
 
-/// The sum of a window is the sum of its bytes, each times 2 to the power of how many follow it, modulo
-/// 2 to the power of 64.
+/// The sum of a window is the sum of its bytes, each times 2 to the power of the number of bytes after it, modulo 2^64.
 pub fn sum_is_by_index()
     ensures { (w : List ℕ) → sum_of w ≡ sum (map (λ k. slice_index w k * 2 ^ (length w - 1 - k))
         (range_with_len 0 (length w))) % 2 ^ 64 }
 {}
 
-/// No pattern is shorter than the minimum length, and some pattern has just that length, where there is
-/// one and none is longer than `usize::MAX`. With no pattern it is `usize::MAX`.
+/// No pattern is shorter than the minimum length. If there is a pattern, and none is longer than `usize::MAX`, some
+/// pattern has this length. Without patterns it is `usize::MAX`.
 pub fn minimum_len_is_the_least_length()
     ensures bound { (patterns : List (List ℕ)) (i : ℕ) → i < length patterns
         → minimum_len_of patterns ≤ length (pattern_at patterns i) }
@@ -50,8 +48,8 @@ pub fn minimum_len_is_the_least_length()
     ensures none { minimum_len_of [] ≡ 2 ^ 64 - 1 }
 {}
 
-/// A configuration builds a searcher of exactly the lists of non-empty patterns, one to its limit. It is
-/// for these patterns and the kind that is configured.
+/// A configuration builds a searcher for exactly the lists of one pattern or more, up to its limit, that have no empty
+/// pattern. The searcher is for these patterns and the configured match kind.
 pub fn lists_up_to_the_limit_build()
     ensures searcher { (config : ConfigValue) (added : List (List ℕ)) → AreBuildable config.pattern_limit added
         → searcher_of (builder_of config added) ≡ Some (record { kind = config.kind; patterns = added }) }
@@ -59,7 +57,7 @@ pub fn lists_up_to_the_limit_build()
         → AreBuildable config.pattern_limit added }
 {}
 
-/// A builder keeps the limit that its configuration had when it was made, whatever limit is set later.
+/// A builder keeps the limit that its configuration had when the builder was made, whatever limit is set later.
 pub fn builders_keep_their_limit(alloc: Global, config: &mut Config, later: usize) -> Builder
     requires some { 1 ≤ later }
     requires few { later ≤ Config.MAX_PATTERN_LIMIT }
@@ -71,24 +69,24 @@ pub fn builders_keep_their_limit(alloc: Global, config: &mut Config, later: usiz
     builder
 }
 
-/// The test of which pattern is better tells just that.
+/// The test `is_better` says which pattern is preferred.
 pub fn better_is_tested()
     ensures { (kind : MatchKind) (patterns : List (List ℕ)) (i j : ℕ)
         → (is_better kind patterns i j ≡ true) ↔ IsBetter kind patterns i j }
 {}
 
-/// An iteration over patterns gives each of what is left in turn, then nothing for ever.
+/// An iteration over patterns gives each element that is left in turn, and then always `None`.
 pub fn iterations_over_patterns_end()
     ensures { GivesEachThenNone (λ pair. pair) ⟦<PatternIter<'static> as Iterator>⟧.next_gives }
 {}
 
-/// A clone of a pattern or of a configuration takes no memory, and is the same value.
+/// A clone of a pattern or of a configuration is the same value, and allocates nothing.
 pub fn clones_are_equal()
     ensures pattern { ClonesExactly ⟦<Pattern<'static> as Clone>⟧.is_clone ⟦<Pattern<'static> as Clone>⟧.is_infallible }
     ensures config { ClonesExactly ⟦<Config as Clone>⟧.is_clone ⟦<Config as Clone>⟧.is_infallible }
 {}
 
-/// A search of the whole haystack answers as a search of the span that is all of it.
+/// A search of the whole haystack answers like a search of the span of the whole haystack.
 pub fn find_is_find_in(searcher: &Searcher, haystack: &[u8]) -> (Option<Match>, Option<Match>)
     ensures same { result.0 ≡ result.1 }
     ensures leftmost { IsLeftmost searcher.now false haystack.now (whole_of haystack.now) result.0 }
@@ -109,8 +107,8 @@ pub fn none_if_nothing_occurs(searcher: &Searcher, haystack: &[u8], span: Span) 
     searcher.find_in(haystack, span)
 }
 
-/// The matches that an iterator gives up to its first `None` are the greedy list. They lie apart, and
-/// there are no more of them than the haystack has bytes.
+/// The matches that an iterator gives before its first `None` are the greedy list. They lie apart, and there are at
+/// most as many as the haystack has bytes.
 pub fn iteration_is_greedy(
     alloc: Global,
     searcher: &Searcher,
@@ -128,8 +126,8 @@ pub fn iteration_is_greedy(
     Ok(all)
 }
 
-/// Up to its first `None` an iterator hashes each byte of the haystack at most once, and reads and
-/// compares no more than the pairs of the whole haystack.
+/// Before its first `None`, an iterator hashes each byte of the haystack at most once, and reads and compares at most
+/// the pairs of the whole haystack.
 pub fn iteration_is_bounded<'s, 'h>(searcher: &'s Searcher, haystack: &'h [u8]) -> FindIter<'s, 'h>
     ensures bounded { SpendsWithin searcher.now haystack.now none_yet result.counts }
     ensures query { result.query ≡ searcher.now }
@@ -141,7 +139,7 @@ pub fn iteration_is_bounded<'s, 'h>(searcher: &'s Searcher, haystack: &'h [u8]) 
     matches
 }
 
-/// The list of all matches is what an iterator gives up to its first `None`.
+/// The list of all matches has those that an iterator gives before its first `None`.
 pub fn list_is_iteration(
     alloc: Global,
     searcher: &Searcher,
@@ -157,33 +155,33 @@ pub fn list_is_iteration(
     Ok((listed, iterated))
 }
 
-/// One call of `next` counts no more than there is between the place from which it searches and the
-/// place from which the search goes on.
+/// A call of `next` counts at most what there is between the offset from which it searches and the one from which the
+/// search continues.
 pub fn next_is_bounded()
     ensures { (old new : FindIterValue) (answer : Option MatchValue) → old.at ≤ length old.haystack
         → FindsNext old answer new → SpendsAtMost old.query old.haystack old.at new.at old.counts new.counts }
 {}
 
-/// What an iterator counts up to its first `None` is what the searches one after another count that
-/// answer its matches and that `None`.
+/// An iterator counts up to its first `None` as much as successive searches with its matches and this `None` as their
+/// answers.
 pub fn iterations_count_as_lists()
     ensures { (first last ended : FindIterValue) (all : List MatchValue) → Yields FindsNext first all last
         → FindsNext last None ended
         → ended.counts ≡ counts_after_all first.counts first.query first.haystack first.at all }
 {}
 
-/// After a `None` an iterator stands at the end of the haystack.
+/// After a `None` an iterator is at the end of the haystack.
 pub fn none_ends_an_iteration()
     ensures { (old new : FindIterValue) → FindsNext old None new → StandsAtEnd new }
 {}
 
-/// An iterator that stands at the end of the haystack answers `None`, and stays there.
+/// An iterator at the end of the haystack answers `None`, and stays there.
 pub fn none_at_the_end()
     ensures { (old new : FindIterValue) (answer : Option MatchValue) → StandsAtEnd old → FindsNext old answer new
         → IsNone answer × StandsAtEnd new }
 {}
 
-/// Whether a `None` of an iterator is followed by nothing but `None`, in so many calls more. It is.
+/// Whether a `None` of an iterator is followed only by `None`, in this many more calls. It is.
 pub fn none_is_for_good(matches: &mut FindIter<'_, '_>, more: usize) -> bool
     ensures { IsTrue result }
 {
@@ -198,10 +196,9 @@ pub fn none_is_for_good(matches: &mut FindIter<'_, '_>, more: usize) -> bool
     true
 }
 
-/// The counts of three searches, worked by hand. The pattern `ab` and the bytes `b` and grave accent
-/// have the sum 292, so the pattern is compared there in vain. Of the 7 bytes of `abababa` 6 are
-/// hashed, since the rest of one byte is shorter than the window. The bytes `!` and `a` share a
-/// bucket, and their sums differ.
+/// The counts of three searches, computed by hand. The pattern `ab`, and the bytes `b` and grave accent, have the sum
+/// 292, so the pattern is compared there in vain. Of the 7 bytes of `abababa`, 6 are hashed, since the last byte is
+/// shorter than the window. The bytes `!` and `a` share a bucket, but their sums differ.
 pub fn worked_counts()
     ensures equal_sums { counts_after none_yet (record { kind = LeftmostFirst; patterns = codes "ab" ∷ [] })
         (0x62 ∷ 0x60 ∷ 0x61 ∷ 0x62 ∷ []) (whole_of (0x62 ∷ 0x60 ∷ 0x61 ∷ 0x62 ∷ []))
@@ -217,9 +214,8 @@ pub fn worked_counts()
         ≡ record { hashed = 4; entries = 4; compared = 0; scanned = 0; tried = 0 } }
 {}
 
-/// The counts of a search for 65535 patterns, worked by hand. They are the two bytes of the numbers from
-/// 0 to 65534, and the haystack is those of the last. No other two bytes have their sum, so one pattern is
-/// compared.
+/// The counts of a search for 65535 patterns, computed by hand. The patterns are the two bytes of each number from 0 to
+/// 65534, and the haystack has those of the last number. No other two bytes have their sum, so one pattern is compared.
 pub fn worked_counts_of_65535_patterns()
     ensures { (patterns : List (List ℕ)) → length patterns ≡ 65535
         → ((n : ℕ) → n < 65535 → pattern_at patterns n ≡ n / 256 ∷ n % 256 ∷ [])
@@ -229,16 +225,16 @@ pub fn worked_counts_of_65535_patterns()
         (counts.hashed ≡ 2) × (counts.compared ≡ 1) }
 {}
 
-/// An empty span counts nothing, whatever is searched for there, if no pattern is empty.
+/// If no pattern is empty, a search of an empty span counts nothing, for any patterns.
 pub fn empty_spans_count_nothing()
     ensures { (old : Counts) (query : Query) (haystack : List ℕ) (at : ℕ) → NoneIsEmpty query.patterns
         → counts_after old query haystack (between at at) None ≡ old }
 {}
 
-/// The counts of searches for patterns chosen to have the sum of what they do not stand in, worked by hand. The bytes
-/// 19 + k and 254 - 2k have the sum 292 for each k, and so have 146 and 0. So 127 patterns are compared there in vain,
-/// and of 128 the last is found. 69 `a` and a `b` have the sum of the same with an `x` for the first `a`, which counts
-/// for a multiple of 2 to the power of 64: there is one comparison.
+/// The counts of searches for patterns that have the same sum as bytes that differ from them, computed by hand. The
+/// bytes 19 + k and 254 - 2k have the sum 292 for each k, and so have 146 and 0. So 127 patterns are compared there in
+/// vain, and of 128 the last is found. 69 `a` and a `b` have the sum of the same bytes with an `x` for the first `a`,
+/// whose factor is a multiple of 2^64: there is one comparison.
 pub fn counts_of_chosen_patterns()
     ensures equal_sums { let patterns : ℕ → List (List ℕ) =
         λ n. map (λ k. (19 + k) ∷ (254 - 2 * k) ∷ []) (range_with_len 0 n) in

@@ -1,4 +1,4 @@
-//! A collection of patterns, and the order in which they are tried at a place.
+//! A collection of patterns, and the order in which they are tried at an offset.
 ghost use Rattle.std.specs.Prelude.{◌≡◌, ◌≤◌, ◌<◌, ◌+◌, ◌↔◌, [], length, take, IsTrue, OnOk, OnErr, IfOk};
 ghost use Rattle.std.specs.Iterator.{YieldsFirst, item_count};
 ghost use Rattle.std.specs.List.{AllPairs, range_with_len};
@@ -17,10 +17,9 @@ use std::alloc::{AllocError, Global};
 use std::fmt;
 use std::marker::Model;
 
-/// Non-empty patterns, numbered from 0 in the order in which they were added, with the order in
-/// which they are tried at a place. The patterns are *in order* where each comes before those that
-/// it is better than, by the match kind: the one added first with
-/// [`MatchKind::LeftmostFirst`]; the longest, and among equal lengths the one added first, with
+/// Non-empty patterns, numbered from 0 in the order in which they were added, and the order in which they are tried at
+/// an offset. The patterns are *in order* if each comes before those to which the match kind prefers it: the one added
+/// first with [`MatchKind::LeftmostFirst`]; the longest, and of the longest the one added first, with
 /// [`MatchKind::LeftmostLongest`].
 #[derive(Drop)]
 pub struct Patterns {
@@ -44,7 +43,7 @@ impl Model for Patterns {
 }
 
 impl Patterns {
-    /// No pattern, and [`MatchKind::LeftmostFirst`]. They are in order.
+    /// A collection without patterns, with [`MatchKind::LeftmostFirst`]. It is in order.
     pub fn new(alloc: Global) -> Patterns
         ensures { result ≡ no_patterns }
     {
@@ -57,12 +56,12 @@ impl Patterns {
         }
     }
 
-    /// Adds a copy of a pattern, which gets the next identifier and is tried last. With
-    /// [`MatchKind::LeftmostFirst`] patterns in order stay so; with
-    /// [`MatchKind::LeftmostLongest`] call [`Patterns::set_match_kind`] afterwards.
+    /// Adds a copy of a pattern, which gets the next identifier and is tried last. With [`MatchKind::LeftmostFirst`],
+    /// patterns in order stay in order; with [`MatchKind::LeftmostLongest`], call [`Patterns::set_match_kind`]
+    /// afterwards.
     ///
-    /// The pattern may not be empty, and there have to be fewer than [`PatternID::LIMIT`] so far.
-    /// Where memory is refused, all stays as it was.
+    /// The pattern must not be empty, and there have to be fewer than [`PatternID::LIMIT`] so far. If memory is
+    /// refused, the collection is unchanged.
     pub fn add(&mut self, bytes: &[u8]) -> Result<(), AllocError>
         requires some { 0 < length bytes.now }
         requires room { length self.old.patterns < PatternID.LIMIT }
@@ -80,8 +79,8 @@ impl Patterns {
         Ok(())
     }
 
-    /// Sets which occurrence is the match, and puts the patterns in that order. Where memory is
-    /// refused, all stays as it was; with up to 20 patterns none is asked for.
+    /// Sets which occurrence is the match, and puts the patterns in this order. If memory is refused, the collection is
+    /// unchanged; with up to 20 patterns none is requested.
     pub fn set_match_kind(&mut self, kind: MatchKind) -> Result<(), AllocError>
         ensures kind { OnOk result (self.new.kind ≡ kind) }
         ensures patterns { self.new.patterns ≡ self.old.patterns }
@@ -109,14 +108,14 @@ impl Patterns {
         self.by_id.is_empty()
     }
 
-    /// Drops all patterns, after which all is as in [`Patterns::new`].
+    /// Removes all patterns. The collection is then as after [`Patterns::new`].
     pub fn reset(&mut self)
         ensures { self.new ≡ no_patterns }
     {
         *self = Patterns::new(self.allocator());
     }
 
-    /// The length of the shortest pattern in bytes, and `usize::MAX` where there is none.
+    /// The length in bytes of the shortest pattern, or `usize::MAX` if there is none.
     pub fn minimum_len(&self) -> usize
         ensures { result ≡ minimum_len_of self.now.patterns }
     {
@@ -130,7 +129,7 @@ impl Patterns {
         &self.kind
     }
 
-    /// The pattern of an identifier, which has to be below the number of patterns.
+    /// The pattern with this identifier, which has to be below the number of patterns.
     pub fn get(&self, id: PatternID) -> Pattern<'_>
         requires { id < length self.now.patterns }
         ensures bytes { result ≡ pattern_at self.now.patterns id }
@@ -139,29 +138,28 @@ impl Patterns {
         Pattern(&self.by_id[id.as_usize()])
     }
 
-    /// The patterns with their identifiers, in the order in which they are tried: each one once.
+    /// An iterator over the patterns with their identifiers, in the order in which they are tried, each once.
     pub fn iter(&self) -> PatternIter<'_>
         ensures items { result ≡ in_order self.now }
         ensures well_formed { IsWellFormed self.now }
     {
-        let _ = &self.kind; // (a read, after which the proof has what the fields keep)
+        let _ = &self.kind; // (a read, which gives the proof the invariant of the fields)
         PatternIter {
             patterns: self,
             i: 0,
         }
     }
 
-    /// The number of bytes of all patterns together.
+    /// The sum of the lengths of all patterns, in bytes.
     pub fn total_pattern_bytes(&self) -> u128
         ensures { result ≡ total_len self.now.patterns }
     {
         self.total_pattern_bytes
     }
 
-    /// Whether the pattern of an identifier stands whole in the haystack, `at` bytes from its
-    /// beginning; where asked, an ASCII letter is the same as its other case. The identifier has to
-    /// be below the number of patterns, and `at` no more than the haystack's length. It counts as
-    /// one comparison.
+    /// Whether the haystack contains a pattern, whole, at the offset `at`. With `ignore_case`, both cases of an ASCII
+    /// letter are equal. The identifier has to be below the number of patterns, and `at` at most the haystack's length.
+    /// This counts as one comparison.
     pub fn matches_at(
         &self,
         id: PatternID,
@@ -189,13 +187,13 @@ impl Patterns {
         }
     }
 
-    /// Where the patterns take their memory from.
+    /// The allocator of the patterns.
     pub(crate) fn allocator(&self) -> Global {
         *self.by_id.allocator()
     }
 
-    /// A copy: the same patterns, order and kind. Memory is asked for only where there is a pattern; the
-    /// patterns stay as they are.
+    /// A copy with the same patterns, order and match kind. Memory is requested only if there is a pattern. The
+    /// collection is unchanged.
     pub fn try_clone(&self) -> Result<Patterns, AllocError>
         ensures copy { IfOk result (λ copy. copy ≡ self.now) }
         ensures no_memory { OnErr result (0 < length self.now.patterns) }
@@ -222,7 +220,7 @@ fn copy_of(alloc: Global, lists: &[Vec<u8>]) -> Result<Vec<Vec<u8>>, AllocError>
     Ok(copy)
 }
 
-/// A copy of the order. No contract says when `Vec::from_slice` asks for memory, so room is made first.
+/// A copy of the order. No contract says when `Vec::from_slice` requests memory, so room is reserved first.
 fn copy_of_order(alloc: Global, order: &[PatternID]) -> Result<Vec<PatternID>, AllocError>
     ensures copy { IfOk result (λ copy. copy.items ≡ order.now) }
     ensures no_memory { OnErr result (0 < length order.now) }
@@ -232,8 +230,8 @@ fn copy_of_order(alloc: Global, order: &[PatternID]) -> Result<Vec<PatternID>, A
     Ok(copy)
 }
 
-/// The length of a pattern, or 0 where there is none of that identifier: a comparison that a sort
-/// calls has to answer for any two.
+/// The length of a pattern, or 0 if there is none with this identifier: the comparison in a sort has to answer for any
+/// two identifiers.
 fn length_of(by_id: &[Vec<u8>], id: PatternID) -> usize
     ensures { result ≡ length (pattern_at (bytes_of by_id.now) id) }
 {
@@ -243,7 +241,7 @@ fn length_of(by_id: &[Vec<u8>], id: PatternID) -> usize
     }
 }
 
-/// Puts longer patterns first, and equally long ones by their identifiers.
+/// Puts longer patterns first, and patterns of equal length in the order of their identifiers.
 fn sort_longest_first(order: &mut Vec<PatternID>, by_id: &[Vec<u8>]) -> Result<(), AllocError>
     ensures permutation { IsPermutation order.old.items order.new.items }
     ensures sorted { OnOk result (IsSorted (longest_cmp (bytes_of by_id.now)) order.new.items) }
@@ -275,7 +273,7 @@ fn put_in_order(
     }
 }
 
-/// What [`Patterns::iter`] goes over. Contracts see the pairs that are still to come.
+/// The iterator of [`Patterns::iter`]. Contracts see the pairs that are still to come.
 #[derive(Drop)]
 pub struct PatternIter<'p> {
     patterns: &'p Patterns,

@@ -1,5 +1,5 @@
-//! Rabin and Karp's search: a sum over a window of the haystack, which moves on byte by byte, tells
-//! which patterns can stand at a place.
+//! The search by Rabin and Karp: the sum of a window that moves through the haystack byte by byte says which patterns
+//! can be at an offset.
 ghost use Rattle.std.specs.Prelude.{◌≡◌, ◌↔◌, ℕ, ◌≤◌, ◌<◌, ◌+◌, ◌-◌, ◌*◌, ◌%◌, ◌^◌, List, [], ◌∷◌, ◌++◌, false, length};
 ghost use Rattle.std.specs.Prelude.{take, All, count_by, ◌==◌, IfOk, IsTrue, OnOk, MatchOption, Some, slice_get};
 ghost use Rattle.literal_base.specs.Occurs.{StandsAt, pattern_at, rest_from};
@@ -21,14 +21,12 @@ use literal_ids::PatternID;
 use std::alloc::{AllocError, Global};
 use std::marker::Model;
 
-/// The sum of a window of bytes, modulo 2 to the power of 64: each byte counts for itself times 2 to
-/// the power of how many bytes of the window follow it. The window is filled by
-/// [`Rolling::push`], and then moves on by [`Rolling::roll`]. Contracts see the length that the
-/// window is to have, and the sum.
+/// The sum of a window of bytes, modulo 2^64. Each byte counts times 2 to the power of the number of bytes after it in
+/// the window. The window is filled by [`Rolling::push`], and then moves by [`Rolling::roll`]. Contracts see the length
+/// of the full window, and the sum.
 ///
-/// The sum is kept in two parts: the sum before the last byte came, and what that byte changed, and the
-/// one that went. So the compiler keeps the product of a roll out of the chain from sum to sum, which
-/// a search has to wait for at each place.
+/// The sum is kept in two parts: the sum before the last byte came in, and the change by that byte and by the one that
+/// left. So the compiler keeps the product of a roll out of the chain of sums, for which a search waits at each offset.
 #[derive(Drop)]
 pub struct Rolling {
     window: usize,
@@ -50,12 +48,12 @@ impl Model for Rolling {
 }
 
 impl Rolling {
-    /// No byte yet, and the sum 0. The window is to have this many bytes, at least one.
+    /// An empty window with the sum 0. The full window has this many bytes, at least one.
     pub fn new(window: usize) -> Rolling
         requires { 1 ≤ window }
         ensures { result ≡ record { window = window; sum = 0 } }
     {
-        // From 64 bytes on the weight of a byte that has left is a multiple of 2 to the power of 64.
+        // From 64 bytes on, the factor of a byte that leaves is a multiple of 2^64.
         let power = if window < usize::BITS as usize {
             1 << window
         } else {
@@ -69,7 +67,7 @@ impl Rolling {
         }
     }
 
-    /// Takes one byte more into the sum, behind the others. It counts as one byte hashed.
+    /// Adds one byte to the end of the window. It counts as one byte hashed.
     pub fn push(&mut self, byte: u8, tally: &mut Tally)
         ensures value { self.new.sum ≡ (2 * self.old.sum + byte) % 2 ^ 64 }
         ensures sum { (w : List ℕ) → self.old.sum ≡ sum_of w → self.new.sum ≡ sum_of (w ++ byte ∷ []) }
@@ -81,11 +79,10 @@ impl Rolling {
         self.change = byte as usize;
     }
 
-    /// Moves a full window on by one byte: `old`, the first byte in it, goes, and `new` comes in
-    /// behind the others. It counts as one byte hashed. Of a window that is not full, or does not begin
-    /// with `old`, the sum moves on by the same equation.
+    /// Moves a full window by one byte: its first byte `old` leaves, and `new` comes in at the end. It counts as one
+    /// byte hashed. If the window is not full, or does not begin with `old`, the sum changes by the same equation.
     pub fn roll(&mut self, old: u8, new: u8, tally: &mut Tally)
-        // Modulo 2 ^ 64 that is 2 * (sum - old * 2 ^ (window - 1)) + new.
+        // This is 2 * (sum - old * 2 ^ (window - 1)) + new, modulo 2 ^ 64.
         ensures value { self.new.sum
             ≡ (2 * self.old.sum + new + (2 ^ 64 - old * 2 ^ self.old.window % 2 ^ 64)) % 2 ^ 64 }
         ensures sum { (w : List ℕ) → length (old ∷ w) ≡ self.old.window → self.old.sum ≡ sum_of (old ∷ w)
@@ -120,8 +117,8 @@ fn sum_of_first(bytes: &[u8], window: usize, tally: &mut Tally) -> usize
     rolling.value()
 }
 
-/// Whether a pattern stands at a place. It stays out of line: it is seldom called, and the loop over
-/// the places has all registers to itself.
+/// Whether a pattern is at an offset. It is not inlined: it is called seldom, and the loop over the offsets keeps all
+/// registers.
 #[cold]
 #[inline(never)]
 fn stands_at(
@@ -139,7 +136,7 @@ fn stands_at(
     patterns.matches_at(id, haystack, at, false, tally)
 }
 
-/// The match of a pattern that stands at a place.
+/// The match of a pattern that is at an offset.
 fn found_at(patterns: &Patterns, id: PatternID, at: usize) -> Match
     requires is_pattern { id < length patterns.now.patterns }
     requires room { at + length (pattern_at patterns.now.patterns id) < 2 ^ 64 }
@@ -149,10 +146,9 @@ fn found_at(patterns: &Patterns, id: PatternID, at: usize) -> Match
     Match::new(id, Span { start: at, end })
 }
 
-/// The patterns by the sums of their first bytes, as many as the shortest pattern has: each stands
-/// in one of 64 buckets, the one of its sum modulo 64, in match order. It holds no pattern itself: each
-/// search is given the patterns that it was made for. Contracts see the length of the window and the
-/// entries of each bucket.
+/// Patterns in 64 buckets, by the sums of their first bytes, up to the shortest pattern's length. The bucket of a
+/// pattern is its sum modulo 64; a bucket is in match order. The patterns themselves are not included: each search has
+/// to get the patterns for which this was made. Contracts see the length of the window and the entries of each bucket.
 #[derive(Drop)]
 pub struct RabinKarp {
     entries: BucketEntries,
@@ -168,9 +164,8 @@ impl Model for RabinKarp {
 }
 
 impl RabinKarp {
-    /// Made for these patterns, of which there has to be one, and which have to be in order. The
-    /// bytes of the patterns that are hashed are added to the tally; where memory is refused, those
-    /// that were hashed by then.
+    /// Made for these patterns. There has to be at least one, and they have to be in order. The tally counts the bytes
+    /// of the patterns that are hashed; if memory is refused, those that were hashed before.
     pub fn new(patterns: &Patterns, tally: &mut Tally) -> Result<RabinKarp, AllocError>
         requires some { 0 < length patterns.now.patterns }
         requires in_order { IsInOrder patterns.now }
@@ -192,8 +187,8 @@ impl RabinKarp {
         })
     }
 
-    /// A copy, made for the same patterns. It takes memory for the entries; where that is refused there is no
-    /// copy, and this stays as it is.
+    /// A copy, made for the same patterns. It takes memory for the entries. If that is refused there is no copy, and
+    /// this is unchanged.
     pub fn try_clone(&self) -> Result<RabinKarp, AllocError>
         ensures { IfOk result (λ copy. copy ≡ self.now) }
     {
@@ -203,8 +198,8 @@ impl RabinKarp {
         })
     }
 
-    /// Reads one entry of the bucket of a sum, if it has one more, and compares its pattern with the place where the
-    /// sums are equal: the pattern, if it stands there.
+    /// Reads one more entry of the bucket of a sum, if there is one. If the sums are equal, it compares the pattern at
+    /// the offset. Returns the pattern if it is there.
     #[inline(always)]
     fn try_entry(
         &self,
@@ -237,9 +232,8 @@ impl RabinKarp {
         }
     }
 
-    /// The first in match order of the patterns that stand at a place, whose window has the sum. It
-    /// is called at each place, mostly in vain. Where `single` says that no bucket has a second entry,
-    /// it asks for none.
+    /// The first pattern in match order that is at an offset whose window has the sum. It is called at each offset,
+    /// mostly in vain. If `single` says that no bucket has a second entry, it reads none.
     #[inline(always)]
     fn look_up(
         &self,
@@ -285,10 +279,10 @@ impl RabinKarp {
         None
     }
 
-    /// What [`RabinKarp::find_at`] answers. `SINGLE` may say that no bucket has a second entry: then a place is asked
-    /// one question in place of three.
-    // Out of line, so that each of its two loops has all registers to itself. Where a loop lies in memory counts, up to
-    // 40 percent with few patterns (docs/MEASURED.md, "The packed search").
+    /// The answer of [`RabinKarp::find_at`]. `SINGLE` may say that no bucket has a second entry: then one test per
+    /// offset replaces three.
+    // Not inlined, so that each of its two loops has all registers. The address of a loop matters, by up to 40 percent
+    // with few patterns (docs/MEASURED.md, "The packed search").
     #[inline(never)]
     fn walk<const SINGLE: bool>(
         &self,
@@ -324,10 +318,9 @@ impl RabinKarp {
         Some(found_at(patterns, id, last))
     }
 
-    /// The leftmost match that begins at `at`, in bytes from the beginning of the haystack, or after
-    /// it. Offsets, in the answer too, are in the whole haystack. `at` may be no more than the
-    /// haystack's length, and the patterns have to be those that this was made for. The steps are
-    /// added to the tally.
+    /// The leftmost match that begins at the offset `at` or after it. All offsets are in bytes of the whole haystack.
+    /// `at` has to be at most the haystack's length, and the patterns have to be those for which this was made. The
+    /// steps are added to the tally.
     pub fn find_at(
         &self,
         patterns: &Patterns,

@@ -1,4 +1,4 @@
--- What a confirming search counts.
+-- The counts of a confirming search.
 use Rattle.std.specs.Prelude.{◌≡◌, ℕ, ◌+◌, ◌-◌, ◌*◌, ◌≤◌, ◌==◌, ◌||◌, List, [], ◌∷◌, length, map, count_by}
 use Rattle.std.specs.Prelude.{Option, None, Some, unwrap_or}
 use Rattle.std.specs.List.{range_with_len}
@@ -15,8 +15,8 @@ use Rattle.literal_prefilters.specs.Reached.{reached_count}
 use Rattle.literal_prefilters.specs.PrefilterValue.{PrefilterValue, by_table, by_memmem, by_packed}
 use Rattle.literal_prefilters.specs.Table.{first_place}
 
--- how many bytes are scanned: with a match, those from the span's start up to and including the first of the table at
--- the match's start or later; without one, the whole span
+-- the number of bytes scanned. With a match, these are the bytes of the span up to and including the first table byte
+-- at the match's start or later. Without one, these are all bytes of the span
 abbrev pub scanned_once : List (Option ℕ) → List ℕ → Span → Option MatchValue → ℕ
 scanned_once table haystack span None = span.end - span.start
 scanned_once table haystack span (Some found) =
@@ -27,27 +27,29 @@ abbrev pub answer_end : Span → Option MatchValue → ℕ
 answer_end span None = span.end
 answer_end span (Some found) = found.end
 
--- how many places are tried: all that a byte of the table reaches or, with a match, those up to and including its start
+-- the number of offsets tried: all that a byte of the table reaches or, with a match, those up to and including its
+-- start
 abbrev pub tried_count : List (Option ℕ) → List ℕ → Span → Option MatchValue → ℕ
 tried_count table haystack span None = reached_count table haystack span span.end
 tried_count table haystack span (Some found) = reached_count table haystack span (found.start + 1)
 
--- how many patterns are compared at a place: all or, if one is the answer there, this one and the better ones
+-- the number of patterns compared at an offset: all or, if one of them is the answer there, this one and the preferred
+-- ones
 abbrev pub compared_at : Query → Option ℕ → ℕ
 compared_at query None = length query.patterns
 compared_at query (Some j) =
     count_by (λ i. i == j || is_better query.kind query.patterns i j) (range_with_len 0 (length query.patterns))
 
--- how many comparisons there are: at each place that is tried one with every pattern, but at the match's start only
--- with its pattern and the better ones
+-- the number of comparisons: one with every pattern at each offset that is tried, but at the match's start only those
+-- with its pattern and the preferred ones
 abbrev pub compared_by_tries : List (Option ℕ) → Query → List ℕ → Span → Option MatchValue → ℕ
 compared_by_tries table query haystack span None =
     reached_count table haystack span span.end * compared_at query None
 compared_by_tries table query haystack span (Some found) =
     reached_count table haystack span found.start * compared_at query None + compared_at query (Some found.pattern)
 
--- the counts after a search by a table that gives an answer: `compared`, `scanned` and `tried` as said above; the
--- others stay
+-- the counts after a search by a table with this answer: `compared`, `scanned` and `tried` grow by these numbers, and
+-- the others are unchanged
 abbrev pub counts_after_tries : Counts → List (Option ℕ) → Query → List ℕ → Span → Option MatchValue → Counts
 counts_after_tries old table query haystack span answer = record old {
   compared = old.compared + compared_by_tries table query haystack span answer;
@@ -55,8 +57,8 @@ counts_after_tries old table query haystack span answer = record old {
   tried = old.tried + tried_count table haystack span answer;
 }
 
--- the counts after a confirming search that gives an answer: by a table those of its tries, and by an exact prefilter
--- those of one search
+-- the counts after a confirming search with this answer: by a table those of its tries, and by an exact prefilter those
+-- of one search
 abbrev pub counts_after_confirming : Counts → PrefilterValue → Query → List ℕ → Span → Option MatchValue → Counts
 counts_after_confirming old (by_table table) query haystack span answer =
     counts_after_tries old table query haystack span answer
@@ -65,8 +67,8 @@ counts_after_confirming old (by_memmem pattern) query haystack span answer =
 counts_after_confirming old (by_packed searched) query haystack span answer =
     counts_after old searched haystack span answer
 
--- the counts after searches one after another with these answers: the first in the rest of the haystack from a place
--- on, and each of the others in the rest from where the one before goes on
+-- the counts after successive searches with these answers: the first in the haystack from an offset on, each of the
+-- others in the rest from where the previous one ended
 abbrev pub counts_after_answers : Counts → PrefilterValue → Query → List ℕ → ℕ → List (Option MatchValue) → Counts
 counts_after_answers old pre query haystack at [] = old
 counts_after_answers old pre query haystack at (answer ∷ more) =
@@ -77,9 +79,9 @@ counts_after_answers old pre query haystack at (answer ∷ more) =
 abbrev pub answers_of : List MatchValue → List (Option MatchValue)
 answers_of = map Some
 
--- what the searches by a table up to a place of a haystack count together, one match after another: scanned at most the
--- bytes before the place, tried at most the places before it that a byte of the table reaches, compared at most (places
--- tried) * (number of patterns). None of these counts falls, and the others stay
+-- the most that successive searches by a table count up to an offset of a haystack: scanned, the bytes before the
+-- offset; tried, the offsets before it that a byte of the table reaches; compared, (offsets tried) * (number of
+-- patterns). None of these counts decreases, and the others are unchanged
 pub record SpendsTries (table : List (Option ℕ)) (patterns : List (List ℕ)) (haystack : List ℕ) (to : ℕ)
     (old new : Counts) : Type 0 where
   pub scanned : new.scanned ≤ old.scanned + to
@@ -90,8 +92,8 @@ pub record SpendsTries (table : List (Option ℕ)) (patterns : List (List ℕ)) 
   pub compared_grows : old.compared ≤ new.compared
   pub others : new ≡ record old { compared = new.compared; scanned = new.scanned; tried = new.tried }
 
--- what the searches of a whole haystack count together: by a table their tries, and by an exact prefilter at most its
--- bytes and its pairs, with nothing scanned or tried
+-- the most that the searches of a whole haystack count: by a table their tries, and by an exact prefilter its bytes and
+-- its pairs, with nothing scanned or tried
 abbrev pub SpendsConfirming : PrefilterValue → List (List ℕ) → List ℕ → Counts → Counts → Type 0
 SpendsConfirming (by_table table) patterns haystack old new =
     SpendsTries table patterns haystack (length haystack) old new

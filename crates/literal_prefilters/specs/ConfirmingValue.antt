@@ -1,4 +1,4 @@
--- A confirming search, as contracts see it, and what it is built from.
+-- A confirming search as contracts see it, and how it is built.
 use Rattle.std.specs.Prelude.{◌≡◌, ◌⊎◌, ℕ, Bool, List, Option, Some, IsTrue, is_some, map}
 use Rattle.std.specs.Prelude.{option_map}
 use Rattle.std.specs.Borrow.{Bor}
@@ -11,19 +11,18 @@ use Rattle.literal_prefilters.specs.Choice.{pick}
 use Rattle.literal_prefilters.specs.PrefilterBuilderValue.{PrefilterBuilderValue, prefilter_limit}
 use Rattle.literal_prefilters.specs.PrefilterValue.{PrefilterValue}
 
--- a `ConfirmingSearch` as contracts see it: the kind and the patterns, whether case is ignored, and what the prefilter
--- goes by
+-- a `ConfirmingSearch` as contracts see it: the match kind and the patterns, whether case is ignored, and the prefilter
 pub record ConfirmingValue : Type 0 where
   pub query : Query
   pub ignore_case : Bool
   pub prefilter : PrefilterValue
 
--- the prefilter's builder for a leftmost kind of match, to which these patterns were added
+-- the prefilter builder for a leftmost match kind, after these patterns were added
 abbrev pub prefilter_builder : MatchKind → Bool → List (List ℕ) → PrefilterBuilderValue
 prefilter_builder kind ignore_case added =
     record { kind = root_kind_of kind; ignore_case = ignore_case; state = state_of prefilter_limit added }
 
--- the confirming search for a builder's patterns by a prefilter
+-- the confirming search for a builder's patterns with this prefilter
 abbrev pub confirming_by : MatchKind → PrefilterBuilderValue → PrefilterValue → ConfirmingValue
 confirming_by kind b prefilter = record {
   query = record { kind = kind; patterns = kept_of b.state };
@@ -35,7 +34,7 @@ confirming_by kind b prefilter = record {
 abbrev pub confirming_of : MatchKind → PrefilterBuilderValue → Option ConfirmingValue
 confirming_of kind b = option_map (confirming_by kind b) (pick b)
 
--- the answer is what is built from all the items of an iterator
+-- the answer is the confirming search for all patterns that an iterator gives
 abbrev pub BuildsConfirming : {U T : Type 0} → (U → T → Type 0) → (T → Option (Bor (List ℕ)) → T → Type 0) → MatchKind
     → Bool → U → Option ConfirmingValue → Type 0
 BuildsConfirming {U} {T} becomes steps kind ignore_case patterns answer =
@@ -44,8 +43,8 @@ BuildsConfirming {U} {T} becomes steps kind ignore_case patterns answer =
 
 module _ (limit : ℕ) {U T : Type 0} (becomes : U → T → Type 0) (steps : T → Option (Bor (List ℕ)) → T → Type 0)
     (patterns : U) where
-  -- an item of the iterator would be kept, after those before it and up to a limit (by a builder that is gone;
-  -- `HoldsTaken` of literal_packed is of one that lives on)
+  -- an item of the iterator would be kept, after those before it and within a limit. This is for a builder that is
+  -- gone; `HoldsTaken` of literal_packed is for one that is still in use
   pub record WouldKeepItem : Type 0 where
     pub iterator : T
     pub items : List (Bor (List ℕ))
@@ -57,7 +56,7 @@ module _ (limit : ℕ) {U T : Type 0} (becomes : U → T → Type 0) (steps : T 
     pub gives : steps before (Some refused) after
     pub would_keep : WouldKeep limit (state_of limit (map (λ p. p.now) items)) refused.now
 
--- memory was refused: for an item that is kept, or after all items, where there is a prefilter for them
+-- memory was refused: for an item that is kept, or after all items, if there is a prefilter for them
 abbrev pub RefusesConfirming : {U T : Type 0} → (U → T → Type 0) → (T → Option (Bor (List ℕ)) → T → Type 0) → MatchKind
     → Bool → U → Type 0
 RefusesConfirming {U} {T} becomes steps kind ignore_case patterns = WouldKeepItem prefilter_limit becomes steps patterns

@@ -1,4 +1,4 @@
--- What models and private functions alone cite.
+-- Definitions that only models and private functions use.
 pub mod ByteTable
 pub mod Confirming
 pub mod CountedSet

@@ -3,12 +3,12 @@ use Rattle.std.specs.Prelude.{ℕ, Bool, List, Option}
 use Rattle.literal_base.specs.declared.search.MatchKind.{MatchKind}
 use Rattle.literal_packed.specs.State.{state_after}
 
--- 2147483647, how many patterns a prefilter is built for at most
+-- 2147483647, the largest number of patterns for which a prefilter is built
 abbrev pub prefilter_limit : ℕ
 prefilter_limit = 2147483647
 
--- a prefilter's `Builder` as contracts see it: the kind of match, whether case is ignored, and the patterns, or None
--- where it is disabled
+-- a prefilter's `Builder` as contracts see it: the match kind, whether case is ignored, and the patterns, or None if it
+-- is disabled
 pub record PrefilterBuilderValue : Type 0 where
   pub kind : MatchKind
   pub ignore_case : Bool

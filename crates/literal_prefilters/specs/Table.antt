@@ -1,4 +1,4 @@
--- A table of bytes: for each of the 256 bytes its distance, if it has one.
+-- Byte tables: for each of the 256 bytes its distance, if it has one.
 use Rattle.std.specs.Prelude.{◌≡◌, ℕ, ◌+◌, ◌-◌, ◌<◌, ◌≤◌, true, false, max, unwrap_or, Bool, List, Option, None, Some}
 use Rattle.std.specs.Prelude.{IfSome, MatchOption}
 use Rattle.std.specs.Prelude.{is_some, option_map, position, fold, sum_by, count_by, slice_index, slice_index_or}
@@ -9,7 +9,7 @@ use Rattle.literal_base.specs.declared.search.Span.{Span}
 use Rattle.literal_base.specs.Occurs.{AreEqualBytes}
 use Rattle.literal_base.specs.Bytes.{AreBytes}
 
--- the distance of a byte, and None where it is not in the table
+-- the distance of a byte, or None if it is not in the table
 abbrev pub distance_of : List (Option ℕ) → ℕ → Option ℕ
 distance_of table byte = slice_index_or table byte None
 
@@ -17,11 +17,11 @@ distance_of table byte = slice_index_or table byte None
 abbrev pub is_in : List (Option ℕ) → ℕ → Bool
 is_in table byte = is_some (distance_of table byte)
 
--- the number of the table's bytes
+-- the number of bytes in the table
 abbrev pub size : List (Option ℕ) → ℕ
 size table = count_by is_some table
 
--- the rank of a byte with its entry, where it is in the table
+-- the rank of a byte with its entry, if it is in the table, otherwise 0
 abbrev pub rank_at : (ℕ × Option ℕ) → ℕ
 rank_at e = if is_some e.1 then rank_of e.0 else 0
 
@@ -37,33 +37,33 @@ AreDistances table = (byte : ℕ) → IfSome (distance_of table byte) (λ d. d �
 abbrev pub reach_of : List (Option ℕ) → ℕ
 reach_of table = fold (λ most o. max most (unwrap_or o 0)) 0 table
 
--- the least place of the span whose byte is in the table
+-- the first offset of the span whose byte is in the table
 abbrev pub first_place : List (Option ℕ) → List ℕ → Span → Option ℕ
 first_place table haystack span =
     option_map (λ k. span.start + k) (position (is_in table) (slice_range haystack span.start span.end))
 
--- the place is the least of the span whose byte is in the table
+-- this is the first offset of the span whose byte is in the table
 pub record IsFirst (table : List (Option ℕ)) (haystack : List ℕ) (span : Span) (place : ℕ) : Type 0 where
   pub after_start : span.start ≤ place
   pub before_end : place < span.end
   pub here : is_in table (slice_index haystack place) ≡ true
   pub none_before : (k : ℕ) → span.start ≤ k → k < place → is_in table (slice_index haystack k) ≡ false
 
--- the place less the distance of its byte, but at least the span's start
+-- the offset minus the distance of its byte, but at least the span's start
 abbrev pub step_back : List (Option ℕ) → List ℕ → ℕ → ℕ → ℕ
 step_back table haystack start place = max start (place - unwrap_or (distance_of table (slice_index haystack place)) 0)
 
--- the place that a prefilter by this table answers: the first place of the table in the span, stepped back, and None
--- where there is none
+-- the offset that a prefilter by this table proposes: the first offset of a table byte in the span, stepped back, or
+-- None if there is none
 abbrev pub proposed_place : List (Option ℕ) → List ℕ → Span → Option ℕ
 proposed_place table haystack span = option_map (step_back table haystack span.start) (first_place table haystack span)
 
--- how many bytes are scanned: those from the span's start up to and including a place, or all if there is none
+-- the number of bytes scanned: those of the span up to and including an offset, or all if there is none
 abbrev pub bytes_scanned : Span → Option ℕ → ℕ
 bytes_scanned span None = span.end - span.start
 bytes_scanned span (Some place) = place + 1 - span.start
 
--- in every case variant of the pattern some byte is in the table, and the distance of the earliest one is at least its
+-- each case variant of the pattern has a byte in the table, and the distance of the first such byte is at least its
 -- offset
 abbrev pub Covers : List (Option ℕ) → Bool → List ℕ → Type 0
 Covers table ignore_case pattern =

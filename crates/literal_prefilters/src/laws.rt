@@ -1,5 +1,5 @@
-//! Laws of tables and prefilters. Each is the contract of a function: of one that does nothing where
-//! the law is about definitions, and else of one that makes the call that the law is about.
+//! Laws of tables and prefilters. Each law is the contract of a function. If a law is about definitions, its function
+//! does nothing; otherwise the function makes the call that the law is about.
 ghost use Rattle.std.specs.Prelude.{◌≡◌, ◌↔◌, ◌-◌, ◌≤◌, ◌<◌, ◌++◌, ◌∷◌, [], ℕ, Bool, List, Option, None, Some, IfSome};
 ghost use Rattle.std.specs.Prelude.{false, true, codes, is_some, slice_index, length, ◌==◌, ◌||◌, ◌+◌, replicate};
 ghost use Rattle.std.specs.List.{All};
@@ -32,7 +32,7 @@ ghost use Rattle.literal_prefilters.specs.Variants.{StartsVariants, IsLargestOff
 use crate::prefilter::{Candidate, ConfirmingSearch, Prefilter};
 use literal_base::search::Span;
 
-/// What a table proposes passes over no occurrence of patterns that it covers: in every haystack and
+/// The offset that a table proposes passes over no occurrence of patterns that the table covers: in every haystack, in
 /// every valid span of it, and for both leftmost kinds.
 pub fn covering_tables_are_sound()
     ensures { (table : List (Option ℕ)) (query : Query) (ignore_case : Bool) (haystack : List ℕ) (span : Span)
@@ -42,7 +42,7 @@ pub fn covering_tables_are_sound()
         → Sound query ignore_case haystack span (candidate_of (proposed_place table haystack span)) }
 {}
 
-/// A table proposes nothing exactly if the span holds no byte of it.
+/// A table proposes nothing exactly if the span has no byte of the table.
 pub fn nothing_is_proposed_without_a_byte()
     ensures { (table : List (Option ℕ)) (haystack : List ℕ) (span : Span)
         → IsValidSpan haystack span
@@ -50,17 +50,16 @@ pub fn nothing_is_proposed_without_a_byte()
         ↔ ((place : ℕ) → span.start ≤ place → place < span.end → is_in table (slice_index haystack place) ≡ false) }
 {}
 
-/// The bytes of a start table are those with which the case variants of the patterns begin, none of
-/// which is empty.
+/// The bytes of a start table are the first bytes of the case variants of the patterns, none of which is empty.
 pub fn start_bytes_begin_variants()
     ensures { (ignore_case : Bool) (patterns : List (List ℕ))
         → NoneIsEmpty patterns
         → StartsVariants ignore_case patterns }
 {}
 
-/// By a table that covers the patterns, the first of its bytes from a match's start on lies in the match. As
-/// many bytes are scanned as there are from the span's start up to it: so no more than up to the match's end,
-/// and with or without a match no more than the span has.
+/// If a table covers the patterns, its first byte from a match's start on is in the match. The bytes from the span's
+/// start up to it are scanned: at most those up to the match's end, and with or without a match at most those of the
+/// span.
 pub fn scans_end_with_the_match()
     ensures last { (table : List (Option ℕ)) (query : Query) (ignore_case : Bool) (haystack : List ℕ) (span : Span)
         (found : MatchValue)
@@ -85,29 +84,27 @@ pub fn scans_end_with_the_match()
         → scanned_once table haystack span answer ≤ span.end - span.start }
 {}
 
-/// The distance of a byte in a rare table is the largest offset at which it stands in any case
-/// variant of any pattern.
+/// The distance of a byte in a rare table is the largest offset at which it is in any case variant of any pattern.
 pub fn distances_are_the_largest_offsets()
     ensures { (ignore_case : Bool) (patterns : List (List ℕ)) (byte : ℕ)
         → IsLargestOffset ignore_case patterns byte }
 {}
 
-/// The first place of a table in a span is the least one whose byte is in the table.
+/// The first offset of a table in a span is the least one whose byte is in the table.
 pub fn first_is_the_least_place()
     ensures { (table : List (Option ℕ)) (haystack : List ℕ) (span : Span) (place : ℕ)
         → IsValidSpan haystack span
         → (first_place table haystack span ≡ Some place) ↔ IsFirst table haystack span place }
 {}
 
-/// No distance of a table is beyond its reach, and where that is not 0 it is the distance of a byte.
+/// No distance of a table is larger than its reach. A reach that is not 0 is the distance of a byte.
 pub fn reach_is_the_largest_distance()
     ensures bound { (table : List (Option ℕ)) (byte d : ℕ) → distance_of table byte ≡ Some d → d ≤ reach_of table }
     ensures reached { (table : List (Option ℕ)) → 0 < reach_of table
         → (byte : ℕ) × (distance_of table byte ≡ Some (reach_of table)) }
 {}
 
-/// There is a start table only where the bytes with which the patterns begin are all at most 0x7F, and
-/// then where they are one to three.
+/// There is a start table exactly if the first bytes of the patterns are one to three, all at most 0x7F.
 pub fn start_bytes_are_at_most_0x7f()
     ensures none { (ignore_case : Bool) (patterns : List (List ℕ)) (byte : ℕ)
         → 127 < byte → byte < 256 → is_start_byte ignore_case patterns byte ≡ true
@@ -117,20 +114,19 @@ pub fn start_bytes_are_at_most_0x7f()
         → start_table ignore_case patterns ≡ if_small (start_bytes ignore_case patterns) }
 {}
 
-/// A start table proposes the place of its byte: its reach is 0.
+/// A start table proposes the offset of its byte: its reach is 0.
 pub fn start_tables_reach_nowhere()
     ensures { (ignore_case : Bool) (patterns : List (List ℕ))
         → IfSome (start_table ignore_case patterns) (λ table. reach_of table ≡ 0) }
 {}
 
-/// The byte that a pattern gives to the rare set stands in it, no byte of the pattern has a lower rank,
-/// and each one before it has a higher one.
+/// The byte that a pattern adds to the rare set is in the pattern, no byte of the pattern has a lower rank, and each
+/// byte before it has a higher one.
 pub fn rarest_bytes_are_earliest_of_least_rank()
     ensures { (pattern : List ℕ) → 0 < length pattern → IsRarest pattern (rarest pattern) }
 {}
 
-/// The rare set of no pattern is empty; with one pattern more it is what the pattern makes of the set
-/// before.
+/// The rare set of no pattern is empty. One more pattern changes it as `with_rarest` says.
 pub fn rare_sets_come_pattern_by_pattern()
     ensures none { (ignore_case : Bool) (byte : ℕ) → is_rare_byte ignore_case [] byte ≡ false }
     ensures one_more { (ignore_case : Bool) (patterns : List (List ℕ)) (pattern : List ℕ) (byte : ℕ)
@@ -138,14 +134,14 @@ pub fn rare_sets_come_pattern_by_pattern()
         ≡ with_rarest ignore_case (is_rare_byte ignore_case patterns) pattern byte }
 {}
 
-/// A prefilter reads at most 254 bytes past a place that it proposes.
+/// A prefilter reads at most 254 bytes after an offset that it proposes.
 pub fn prefilters_reach_254_bytes(pre: &Prefilter)
     ensures { prefilter_reach pre.now ≤ 254 }
 {
     pre.keeps_its_reach();
 }
 
-/// A prefilter by single bytes answers nothing exactly if the span holds no byte of its table.
+/// A prefilter by a table answers `None` exactly if the span has no byte of the table.
 pub fn none_without_a_byte(pre: &Prefilter, haystack: &[u8], span: Span) -> Candidate
     requires { IsValidSpan haystack.now span }
     ensures { IfSome (prefilter_table pre.now) (λ table. (result ≡ Candidate.None)
@@ -156,7 +152,7 @@ pub fn none_without_a_byte(pre: &Prefilter, haystack: &[u8], span: Span) -> Cand
     pre.find_in(haystack, span)
 }
 
-/// An exact prefilter answers nothing exactly if nothing occurs in the span.
+/// An exact prefilter answers `None` exactly if nothing occurs in the span.
 pub fn none_without_an_occurrence(pre: &Prefilter, haystack: &[u8], span: Span) -> Candidate
     requires { IsValidSpan haystack.now span }
     ensures { IfSome (exact_query pre.now) (λ query. (result ≡ Candidate.None)
@@ -173,8 +169,8 @@ pub fn confirming_searches_cover_their_patterns(search: &ConfirmingSearch)
     search.covers_its_patterns();
 }
 
-/// For a leftmost kind of match, with case kept, there is a prefilter for each list of 1 to 128
-/// non-empty patterns, want of memory aside.
+/// For a leftmost match kind, with case kept, each list of 1 to 128 non-empty patterns has a prefilter, unless memory
+/// is refused.
 pub fn up_to_128_patterns_have_a_prefilter()
     ensures { (builder : PrefilterBuilderValue)
         → suits_packed builder ≡ true
@@ -183,12 +179,12 @@ pub fn up_to_128_patterns_have_a_prefilter()
         → is_some (pick builder) ≡ true }
 {}
 
-/// What confirming searches by tables count, worked by hand. By the first bytes of `foo` and `bar` the
-/// places of both first bytes are tried in `xxbafoo`, and five bytes scanned. By the byte `k` with the
-/// distance 7, which it has in `Sherlock` and `lockjaw`, three places are tried in `Shlockjaw`, each of
-/// which the same `k` proposes; up to its byte 8 nothing is found, after six. By the byte `p` with the
-/// distance 4 three places are tried up to `maple`, and nine in all until no word is left. By a byte with
-/// the distance 254 at the end of 255 bytes each place is tried, and each byte scanned once.
+/// The counts of confirming searches by tables, computed by hand. With the first bytes of `foo` and `bar`, the offsets
+/// of both first bytes in `xxbafoo` are tried, and five bytes are scanned. With the byte `k` at the distance 7, which
+/// it has in `Sherlock` and `lockjaw`, three offsets are tried in `Shlockjaw`, each proposed by the same `k`; up to its
+/// byte 8 nothing is found, after six tries. With the byte `p` at the distance 4, three offsets are tried up to
+/// `maple`, and nine until no word is left. With a byte at the distance 254, at the end of 255 bytes, each offset is
+/// tried, and each byte scanned once.
 pub fn worked_counts()
     ensures start_table { let table : List (Option ℕ) = table_of (λ b. b == 0x66 || b == 0x62) (λ _. 0) in
         let answer : Option MatchValue = Some (record { pattern = 0; start = 4; end = 7 }) in
@@ -212,10 +208,10 @@ pub fn worked_counts()
         × (scanned_once table haystack (between 0 255) None ≡ 255) }
 {}
 
-/// What the searches count that [`ConfirmingSearch::build`] makes for these patterns, worked by hand. All of
-/// `apple`, `maple` and `Snapple` are listed after nine tries, at which 8, 10 and 6 times a pattern is
-/// compared: 16, 12 and 14 bytes are scanned for a word, and one behind the last. With ASCII case ignored
-/// it is the same. `lockjaw` is found after three tries and six bytes in either case.
+/// The counts of searches that [`ConfirmingSearch::build`] makes for these patterns, computed by hand. The list of
+/// `apple`, `maple` and `Snapple` takes nine tries, with 8, 10 and 6 comparisons; 16, 12 and 14 bytes are scanned for a
+/// word, and one after the last. With ASCII case ignored it is the same. `lockjaw` is found after three tries and six
+/// bytes, with case kept or ignored.
 pub fn worked_counts_of_patterns()
     ensures words { let patterns : List (List ℕ) = codes "apple" ∷ codes "maple" ∷ codes "Snapple" ∷ [] in
         let table : List (Option ℕ) = table_of (λ b. b == 0x70) (λ _. 4) in
@@ -251,9 +247,9 @@ pub fn worked_counts_of_patterns()
         ≡ record none_yet { compared = 6; scanned = 6; tried = 3 }) }
 {}
 
-/// Where a match begins at the place that its table proposes first, that place alone is tried, and the
-/// bytes up to the first of the table are scanned. So it is for a byte with each distance that a table may
-/// have, at the end of a pattern behind ten other bytes.
+/// If a match begins at the first offset that its table proposes, only this offset is tried, and the bytes up to the
+/// first table byte are scanned. This is shown for a byte with each distance that a table may have, at the end of a
+/// pattern after ten other bytes.
 pub fn one_try_where_a_match_is_proposed()
     ensures proposed { (table : List (Option ℕ)) (haystack : List ℕ) (span : Span) (place : ℕ) (found : MatchValue)
         → IsValidSpan haystack span
@@ -275,7 +271,7 @@ pub fn empty_spans_count_nothing()
         × (scanned_once table haystack (between at at) None ≡ 0) }
 {}
 
-/// A clone of a candidate takes no memory, and is the same candidate.
+/// A clone of a candidate is the same candidate, and allocates nothing.
 pub fn clones_are_equal()
     ensures { ClonesExactly ⟦<Candidate as Clone>⟧.is_clone ⟦<Candidate as Clone>⟧.is_infallible }
 {}

@@ -1,6 +1,5 @@
-//! Verified search for several literals at once: every public path of the layers below, at the root
-//! each item of `primitives` and of `search`, and prefilters that pass over parts of a haystack in
-//! which nothing can occur.
+//! Verified search for several literals at once. The crate has every public path of the layers below, each item of
+//! `primitives` and of `search` at its root, and prefilters that pass over parts of a haystack where nothing can occur.
 #![tactic(auto)]
 
 pub mod laws;

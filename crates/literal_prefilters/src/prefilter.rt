@@ -1,5 +1,5 @@
-//! Prefilters: they pass over parts of a haystack in which no pattern occurs, and propose places at
-//! which one may begin. All offsets are in bytes, from the beginning of the whole haystack.
+//! Prefilters: they pass over parts of a haystack where no pattern occurs, and propose offsets at which one may begin.
+//! All offsets are in bytes of the whole haystack.
 ghost use Rattle.std.specs.List.{All};
 ghost use Rattle.std.specs.Prelude.{◌≡◌, ◌==◌, ◌≤◌, ◌<◌, ◌∷◌, ℕ, List, [], length, Some, false};
 ghost use Rattle.std.specs.Prelude.{OnOk, OnErr, IfOk, IfSome};
@@ -46,22 +46,22 @@ use std::alloc::{AllocError, Global};
 use std::fmt;
 use std::marker::Model;
 
-/// Finds where in a span an occurrence of some patterns may begin, and passes over the rest. A
-/// [`Builder`] makes it; contracts see whether it goes by a table of bytes, by one pattern, or by a
-/// packed search, and what it looks for.
+/// Finds where an occurrence of some patterns may begin in a span, and passes over the rest. A [`Builder`] makes it.
+/// Contracts see whether it searches by a table of bytes, by one pattern or by a packed search, and what it searches
+/// for.
 #[derive(Drop)]
 pub struct Prefilter {
     finder: Finder,
 }
 
-/// By how much the ranks of a start table may sum to more than the ranks of a rare table. This and the next are the
-/// original's numbers, so that the choice is the same; a start table is worth more, since it never proposes too early.
+/// How much larger the sum of a start table's ranks may be than that of a rare table. This number and the next are the
+/// original's, so that the choice is the same. A start table is preferred, since it never proposes too early.
 const NEARLY_AS_RARE: u16 = 50;
 
-/// How many patterns a list has at most for which a packed search is better than full tables.
+/// The largest number of patterns for which a packed search is better than full tables.
 const SHORT_LIST: usize = 16;
 
-/// How many patterns a packed search is built for at most, by the usual configuration.
+/// The largest number of patterns for which a packed search is built, in the default configuration.
 const PACKED_LIMIT: usize = 128;
 
 /// The kinds of prefilter.
@@ -91,9 +91,9 @@ impl Model for Prefilter {
 }
 
 impl Prefilter {
-    /// What may occur in the span, which has to be a valid span of the haystack: the leftmost match, a
-    /// place at which an occurrence of the builder's patterns may begin, or `None` where none occurs. A
-    /// possible start lies in the span, and no occurrence in the span begins before it.
+    /// The candidate in the span, which has to be a valid span of the haystack: the leftmost match, an offset at which
+    /// an occurrence of the builder's patterns may begin, or `None` if none occurs. A possible start lies in the span,
+    /// and no occurrence in the span begins before it.
     ///
     /// [`PrefilterI::find_in`], which generic code calls, has the same name and takes a tally.
     pub fn find_in(&self, haystack: &[u8], span: Span) -> Candidate
@@ -104,9 +104,8 @@ impl Prefilter {
         self.find_in_counted(haystack, span, &mut Tally::new())
     }
 
-    /// Answers as [`Prefilter::find_in`], and adds the steps that it takes to a tally: by a table it
-    /// scans the bytes of the span up to the first that it looks for, or all, and an exact search
-    /// counts as one of a [`Searcher`](literal_packed::Searcher).
+    /// Like [`Prefilter::find_in`], and adds its steps to a tally. By a table it scans the bytes of the span up to the
+    /// first table byte, or all. An exact search counts as one of a [`Searcher`](literal_packed::Searcher).
     pub fn find_in_counted(&self, haystack: &[u8], span: Span, tally: &mut Tally) -> Candidate
         requires { IsValidSpan haystack.now span }
         ensures sound { PassesOverNone (CoveredBy self.now) haystack.now span result }
@@ -126,7 +125,7 @@ impl Prefilter {
         }
     }
 
-    /// A copy, which looks for the same. It takes memory only where patterns are kept.
+    /// A copy for the same patterns. It allocates only if patterns are kept.
     pub fn try_clone(&self) -> Result<Prefilter, AllocError>
         ensures ok { IfOk result (λ copy. copy ≡ self.now) }
         ensures no_memory { OnErr result (TakesMemory self.now) }
@@ -144,11 +143,11 @@ impl Prefilter {
         Ok(Prefilter { finder })
     }
 
-    /// What every value keeps, for the law that says so.
+    /// The invariant of every value, for the law that states it.
     pub(crate) fn keeps_its_reach(&self)
         ensures { prefilter_reach self.now ≤ 254 }
     {
-        let _ = &self.finder; // (a read, after which the proof has what the fields keep)
+        let _ = &self.finder; // (a read, which gives the proof the invariant of the fields)
     }
 }
 
@@ -164,7 +163,7 @@ impl PrefilterI for Prefilter {
     }
 }
 
-/// Names the kind.
+/// Shows the kind.
 impl fmt::Debug for Prefilter {
     fn fmt<W: fmt::Write>(&self, f: &mut fmt::Formatter<W>) -> fmt::Result {
         f.write_str(match &self.finder {
@@ -180,19 +179,19 @@ impl fmt::Debug for Prefilter {
     }
 }
 
-/// What a prefilter says of a span.
+/// The answer of a prefilter for a span.
 #[derive(Clone, Debug, Drop)]
 pub enum Candidate {
     /// No pattern occurs in the span.
     None,
     /// The leftmost match of the span.
     Match(Match),
-    /// A place of the span before which no occurrence in the span begins. One may begin there.
+    /// An offset of the span before which no occurrence in the span begins. One may begin there.
     PossibleStartOfMatch(usize),
 }
 
 impl Candidate {
-    /// Where the match or the possible match begins, if there is one.
+    /// The start of the match or of the possible match, if there is one.
     pub fn into_option(self) -> Option<usize>
         ensures { result ≡ start_of self }
     {
@@ -206,26 +205,26 @@ impl Candidate {
 
 /// A search that passes over parts of a haystack.
 ///
-/// A prefilter *covers* some patterns, for a match kind and with ASCII case kept or ignored: what it
-/// answers then passes over no occurrence of these. It has a *reach*, the number of bytes that it may
-/// read past a place that it proposes.
+/// A prefilter *covers* some patterns, for a match kind and with ASCII case kept or ignored: its answer then passes
+/// over no occurrence of these patterns. Its *reach* is the number of bytes that it may read after an offset that it
+/// proposes.
 pub trait PrefilterI {
     ghost use Rattle.literal_base.specs.Counts.{Counts};
     ghost use Rattle.literal_base.specs.declared.search.Span.{Span};
     ghost use Rattle.literal_prefilters.specs.declared.prefilter.Candidate.{Candidate};
 
-    /// Whether the prefilter covers these patterns, for this match kind and with case ignored or not.
+    /// Whether the prefilter covers these patterns, for this match kind, and with case ignored or kept.
     ghost covers: { Self → Coverage };
 
-    /// How many bytes past a proposed place the prefilter may read.
+    /// How many bytes after a proposed offset the prefilter may read.
     ghost reach: { Self → ℕ };
 
-    /// What the prefilter answers on a span, and what that counts.
+    /// The answer of the prefilter for a span, and its counts.
     ghost answers: { Self → List ℕ → Span → Candidate → Counts → Counts → Type 0 };
 
-    /// What may occur in the span, which has to be a valid span of the haystack: `None` only if no
-    /// covered pattern occurs in it, a match only if it is the leftmost one, and a possible start only
-    /// inside the span and with no occurrence before it.
+    /// The candidate in the span, which has to be a valid span of the haystack: `None` only if no covered pattern
+    /// occurs in it, a match only if it is the leftmost one, and a possible start only inside the span and with no
+    /// occurrence before it.
     fn find_in(&self, haystack: &[u8], span: Span, tally: &mut Tally) -> Candidate
         requires { IsValidSpan haystack.now span }
         ensures sound { PassesOverNone (covers self.now) haystack.now span result }
@@ -233,11 +232,11 @@ pub trait PrefilterI {
         ensures answer { answers self.now haystack.now span result tally.old tally.new };
 }
 
-/// Collects patterns, and builds the prefilter that suits them, if one does. An empty pattern, or one
-/// more than [`PatternID::LIMIT`] patterns, *disables* the builder for good: it then keeps no
-/// pattern, and builds no prefilter, whatever is added later.
+/// Collects patterns, and builds the prefilter that suits them, if there is one. An empty pattern, or more than
+/// [`PatternID::LIMIT`] patterns, *disable* the builder for good: it then keeps no pattern, and builds no prefilter,
+/// whatever is added later.
 ///
-/// Beside the patterns it keeps what their tables are made of, so that no pattern is read again for them.
+/// Besides the patterns it keeps the data for their tables, so that no pattern is read twice for these.
 ///
 /// ```rust
 /// let mut builder = prefilter::Builder::new(alloc, MatchKind::LeftmostFirst);
@@ -270,7 +269,7 @@ impl Model for Builder {
 }
 
 impl Builder {
-    /// No pattern, for searches of this kind, with ASCII case kept. A prefilter built for
+    /// A builder without patterns, for searches with this match kind, and with ASCII case kept. A prefilter built for
     /// [`MatchKind::Standard`] serves both leftmost kinds.
     pub fn new(alloc: Global, kind: MatchKind) -> Builder
         ensures { result ≡ record { kind = kind; ignore_case = false; state = Some [] } }
@@ -285,8 +284,7 @@ impl Builder {
         }
     }
 
-    /// Sets whether an ASCII letter is the same as its other case. The builder must not have a
-    /// pattern yet, nor be disabled.
+    /// Sets whether both cases of an ASCII letter are equal. The builder must have no pattern yet, and not be disabled.
     pub fn ascii_case_insensitive(self, yes: bool) -> Builder
         requires { self.state ≡ Some [] }
         ensures { result ≡ record self { ignore_case = yes } }
@@ -298,17 +296,16 @@ impl Builder {
         }
     }
 
-    /// The prefilter that suits the patterns, and `None` where none does. The builder stays as it is.
+    /// The prefilter that suits the patterns, or `None` if there is none. The builder is unchanged.
     ///
-    /// The first of these cases decides. There is no pattern, or the builder is disabled: none. Case is
-    /// kept and there is one pattern: a search for it. Case is kept, the kind is a leftmost one, there are
-    /// at most 16 patterns of two bytes or more, and of [`ByteTable::start`] and [`ByteTable::rare`] there
-    /// is one at least, and each that there is has three bytes: a packed search. There are both tables: the start table
-    /// if it has fewer bytes, or if its ranks sum to at most 50 more than those of the rare one, and the
-    /// rare table otherwise. There is one table: that one. Case is kept, the kind is a leftmost one, and
-    /// there are at most 128 patterns: a packed search. Otherwise there is none.
+    /// The first of these cases decides. There is no pattern, or the builder is disabled: none. Case is kept and there
+    /// is one pattern: a search for it. Case is kept, the kind is a leftmost one, there are at most 16 patterns of two
+    /// bytes or more, at least one of [`ByteTable::start`] and [`ByteTable::rare`] exists, and each that exists has
+    /// three bytes: a packed search. Both tables exist: the start table if it has fewer bytes, or if its ranks add up
+    /// to at most 50 more than those of the rare one, and otherwise the rare table. One table exists: this one. Case is
+    /// kept, the kind is a leftmost one, and there are at most 128 patterns: a packed search. Otherwise there is none.
     ///
-    /// Memory is asked for only where patterns are searched for, and not bytes of a table.
+    /// Memory is requested only for a prefilter that searches for patterns, not for one by a table.
     pub fn build(&self) -> Result<Option<Prefilter>, AllocError>
         ensures pick { IfOk result (λ built. built ≡ pick self.now) }
         ensures no_memory { OnErr result (IsSomeAnd (pick self.now) TakesMemory) }
@@ -339,7 +336,7 @@ impl Builder {
         }
     }
 
-    /// The patterns, in the order of a match kind.
+    /// The patterns, in match order.
     fn into_patterns(self, kind: packed::MatchKind) -> Result<Patterns, AllocError>
         ensures patterns { IfOk result (λ patterns. patterns.patterns ≡ kept_of self.state) }
         ensures kind { IfOk result (λ patterns. patterns.kind ≡ kind) }
@@ -350,7 +347,7 @@ impl Builder {
         Ok(patterns)
     }
 
-    /// There is no pattern, or the builder is disabled.
+    /// Whether there is no pattern, or the builder is disabled.
     fn is_empty(&self) -> bool
         ensures { result ≡ (length (kept_of self.now.state) == 0) }
     {
@@ -363,7 +360,7 @@ impl Builder {
         !self.ascii_case_insensitive && self.patterns.len() == 1
     }
 
-    /// What [`ByteTable::start`] gives for the patterns.
+    /// The table of [`ByteTable::start`] for the patterns.
     fn start_table(&self) -> Option<ByteTable>
         ensures table { result ≡ start_table self.now.ignore_case (kept_of self.now.state) }
         ensures none_back { IfSome result (λ t. reach_of t ≡ 0) }
@@ -372,7 +369,7 @@ impl Builder {
         self.running.start_table()
     }
 
-    /// What [`ByteTable::rare`] gives for the patterns.
+    /// The table of [`ByteTable::rare`] for the patterns.
     fn rare_table(&self) -> Option<ByteTable>
         ensures table { result ≡ rare_table self.now.ignore_case (kept_of self.now.state) }
         ensures covers { IfSome result (λ t. All (Covers t self.now.ignore_case) (kept_of self.now.state)) }
@@ -380,7 +377,7 @@ impl Builder {
         self.running.rare_table()
     }
 
-    /// Whether a packed search finds just the matches that are wanted.
+    /// Whether a packed search finds just the wanted matches.
     fn suits_packed(&self) -> bool
         ensures { result ≡ suits_packed self.now }
     {
@@ -428,9 +425,9 @@ impl Builder {
         }))
     }
 
-    /// Adds a copy of a pattern, unless the builder is disabled. An empty pattern, and one more than
-    /// [`PatternID::LIMIT`], disables it. Where memory is refused, all stays as it was; where the
-    /// pattern is not kept no memory is asked for.
+    /// Adds a copy of a pattern, unless the builder is disabled. An empty pattern, or more than [`PatternID::LIMIT`]
+    /// patterns, disable it. If memory is refused, the builder is unchanged. Memory is requested only for a pattern
+    /// that is kept.
     pub fn add(&mut self, bytes: &[u8]) -> Result<(), AllocError>
         ensures ok { OnOk result (self.new ≡ with_added self.old (bytes.now ∷ [])) }
         ensures no_memory { OnErr result (WouldKeep prefilter_limit self.old.state bytes.now) }
@@ -451,7 +448,7 @@ impl Builder {
     }
 }
 
-/// Says for which kind it is, whether it ignores case, and how many patterns it has.
+/// Shows the match kind, whether case is ignored, and the number of patterns.
 impl fmt::Debug for Builder {
     fn fmt<W: fmt::Write>(&self, f: &mut fmt::Formatter<W>) -> fmt::Result {
         let kind = self.kind;
@@ -466,8 +463,8 @@ impl fmt::Debug for Builder {
 }
 
 impl Prefilter {
-    /// Of the two tables by the start table if it has fewer bytes or its bytes are nearly as rare, and
-    /// otherwise by the rare one.
+    /// The prefilter by the start table if it has fewer bytes or its bytes are nearly as rare, otherwise by the rare
+    /// table.
     fn of_both(start: ByteTable, rare: ByteTable) -> Prefilter
         requires { reach_of start ≡ 0 }
         ensures { result ≡ by_table (if (has_fewer_start_bytes (Some start) (Some rare)
@@ -480,7 +477,7 @@ impl Prefilter {
         }
     }
 
-    /// By the bytes with which patterns begin.
+    /// The prefilter by a start table.
     fn start(table: ByteTable) -> Prefilter
         requires { reach_of table ≡ 0 }
         ensures { result ≡ by_table table }
@@ -493,7 +490,7 @@ impl Prefilter {
         Prefilter { finder }
     }
 
-    /// By rare bytes.
+    /// The prefilter by a rare table.
     fn rare(table: ByteTable) -> Prefilter
         ensures { result ≡ by_table table }
     {

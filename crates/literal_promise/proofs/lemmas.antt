@@ -1,4 +1,3 @@
 -- Lemmas that several proofs share, by topic.
 pub mod Lists
-pub mod Refused
 pub mod Runs

@@ -1,2 +1,1 @@
-pub mod AnyList
 pub mod Together

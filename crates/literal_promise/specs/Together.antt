@@ -1,4 +1,4 @@
--- What is asked for and answered where all that the layers promise is said at once.
+-- The parameters and answers of the contract that states all guarantees of the bottom layer.
 use Rattle.std.specs.Prelude.{◌≡◌, ℕ, Bool, List, None, map}
 use Rattle.std.specs.Borrow.{Bor}
 use Rattle.std.specs.Iterator.{Yields}
@@ -13,7 +13,7 @@ use Rattle.literal_prefilters.specs.PrefilterBuilderValue.{PrefilterBuilderValue
 use Rattle.literal_prefilters.specs.PrefilterValue.{PrefilterValue, CoveredBy}
 use Rattle.literal_promise.specs.declared.SearchRequest.{SearchRequest}
 
--- the patterns and the kind of match that are asked for
+-- the patterns and the match kind that are asked for
 abbrev pub asked_query : SearchRequest → Query
 asked_query asked = record { kind = asked.kind; patterns = map (λ (p : Bor (List ℕ)). p.now) asked.patterns.now }
 
@@ -21,7 +21,7 @@ asked_query asked = record { kind = asked.kind; patterns = map (λ (p : Bor (Lis
 abbrev pub asked_config : SearchRequest → ConfigValue
 asked_config asked = record { kind = asked.kind; pattern_limit = asked.pattern_limit }
 
--- the prefilter's builder that is asked for, to which the patterns were added
+-- the prefilter builder that is asked for, after the patterns were added
 abbrev pub asked_builder : SearchRequest → PrefilterBuilderValue
 asked_builder asked = record {
   kind = asked.built_for;
@@ -29,7 +29,7 @@ asked_builder asked = record {
   state = state_of prefilter_limit (asked_query asked).patterns;
 }
 
--- an iteration over the matches in a haystack gives these up to its first None, and has counted this by then
+-- an iteration over the matches in a haystack gives these before its first None, and has then counted these steps
 pub record IsIteration (query : Query) (haystack : List ℕ) (all : List MatchValue) (counts : Counts) : Type 0 where
   pub last : FindIterValue
   pub ended : FindIterValue
@@ -37,7 +37,7 @@ pub record IsIteration (query : Query) (haystack : List ℕ) (all : List MatchVa
   pub none_left : FindsNext last None ended
   pub counted : ended.counts ≡ counts
 
--- the patterns are in order, and the prefilter covers them for their kind, with ASCII case ignored or not
+-- the patterns are in match order, and the prefilter covers them for their match kind, with ASCII case ignored or kept
 pub record IsCovered (ignore_case : Bool) (patterns : PatternsValue) (prefilter : PrefilterValue) : Type 0 where
   pub in_order : IsInOrder patterns
   pub covered : CoveredBy prefilter (query_of patterns) ignore_case

@@ -22,9 +22,8 @@ pub struct Covered {
     pub prefilter: Prefilter,
 }
 
-/// Patterns in the order of their match kind, and a prefilter that covers them for it. `None` exactly where
-/// no prefilter suits them. Memory is asked for only where the first pattern is not empty: otherwise none is
-/// kept.
+/// Patterns in match order, and a prefilter that covers them for their match kind. It is `None` exactly if no prefilter
+/// suits them. Memory is requested only if the first pattern is not empty: otherwise none is kept.
 pub fn covered_patterns(
     alloc: Global,
     asked: &SearchRequest<'_>,
@@ -75,8 +74,8 @@ fn patterns_of(alloc: Global, list: &[&[u8]]) -> Result<Patterns, AllocError>
     Ok(patterns)
 }
 
-/// The leftmost match in a span by the prefilter of the patterns: confirming by what a builder builds
-/// finds the leftmost, and scans at most 255 bytes for each byte of the span.
+/// The leftmost match in a span, confirmed by the prefilter of the patterns. It scans at most 255 bytes for each byte
+/// of the span.
 pub fn confirm_covered(
     covered: &Covered,
     ignore_case: bool,

@@ -1,13 +1,12 @@
-//! What all layers promise together.
+//! The guarantees of the layers of the port, together. Those of the searches for any list are in `search_promise`.
 //!
-//! Want of memory aside, exactly the lists of non-empty patterns, one to the configured limit, build a
-//! `Searcher`, whose answer on every valid span is the leftmost whole occurrence under the tie rule;
-//! `find_iter` is the greedy list of these, hashing each haystack byte at most once; no built `Prefilter`
-//! passes over an occurrence, and confirming by it finds the leftmost, scanning at most 255 bytes per span
-//! byte.
+//! Unless memory is refused, a `Searcher` is built for exactly the lists of non-empty patterns, from one to the
+//! configured limit. Its answer in every valid span is the leftmost whole occurrence under the tie rule. `find_iter` is
+//! the greedy list of these, and hashes each haystack byte at most once. No built `Prefilter` passes over an
+//! occurrence; confirming by it finds the leftmost one, and scans at most 255 bytes per byte of the span.
 //!
-//! The contract of [`together`] says all of this, and is proved from public contracts and laws alone. What
-//! runs it stands in `literal_calls::callers::together`, since tests here would double the time of the proof.
+//! The contract of [`together`] says all of this, and is proved only from public contracts and laws.
+//! `test_calls::callers::together` runs it, since tests here would double the time of the proof.
 #![tactic(auto)]
 
 ghost use Rattle.std.specs.Prelude.{◌≡◌, ◌<◌, ◌≤◌, ◌+◌, ◌-◌, ◌*◌, ◌↔◌, IfOk, IfSome, IsSome, IsSomeAnd, OnErr, false};
@@ -22,7 +21,6 @@ ghost use Rattle.literal_prefilters.specs.PrefilterValue.{IsAnswer};
 ghost use Rattle.literal_prefilters.specs.Sound.{Sound};
 ghost use Rattle.literal_promise.specs.Together.{IsIteration, asked_builder, asked_query};
 
-pub mod any_list;
 pub mod covered;
 
 use covered::{confirm_covered, covered_patterns};
@@ -33,44 +31,43 @@ use literal_prefilters::prefilter::Candidate;
 use literal_prefilters::{Match, MatchKind, Span};
 use std::alloc::{AllocError, Global};
 
-/// Patterns, and how they are searched for.
+/// Patterns, and how to search for them.
 #[derive(Drop)]
 pub struct SearchRequest<'p> {
     /// Which occurrence is the match.
     pub kind: packed::MatchKind,
-    /// How many patterns a searcher is built for at most.
+    /// The largest number of patterns for which a searcher is built.
     pub pattern_limit: usize,
-    /// For which kind of match the prefilter is built: the same, or standard semantics.
+    /// The match kind for which the prefilter is built: the same, or standard semantics.
     pub built_for: MatchKind,
-    /// Whether ASCII case is ignored by the prefilter, and where its candidates are confirmed.
+    /// Whether the prefilter, and the search that confirms its candidates, ignore ASCII case.
     pub ignore_case: bool,
     /// The patterns.
     pub patterns: &'p [&'p [u8]],
 }
 
-/// What a searcher finds.
+/// The answers of a searcher.
 #[derive(Drop)]
 pub struct SearchOutcome {
     /// By [`Searcher::find_in`], in the span.
     pub found: Option<Match>,
     /// By [`Searcher::find_iter`], up to its first `None`.
     pub all: Vec<Match>,
-    /// What that iteration counted.
+    /// The steps of this iteration.
     pub counted: Tally,
 }
 
-/// What a prefilter proposes, and what confirming by it finds.
+/// The candidate of a prefilter, and the match that confirming by it finds.
 #[derive(Drop)]
 pub struct Confirmed {
-    /// What the prefilter says of the span.
+    /// The answer of the prefilter for the span.
     pub candidate: Candidate,
     /// By [`confirm`](literal_prefilters::prefilter::confirm), in the span.
     pub found: Option<Match>,
 }
 
-/// Searches by a searcher, if one is built, and proposes and confirms by a prefilter, if one is built:
-/// exactly where one suits the patterns. Memory is asked for only where the first pattern is not empty:
-/// otherwise none is kept.
+/// Searches by a searcher, and proposes and confirms by a prefilter, if they are built: exactly if they suit the
+/// patterns. Memory is requested only if the first pattern is not empty: otherwise none is kept.
 pub fn together(
     alloc: Global,
     asked: &SearchRequest<'_>,
@@ -154,7 +151,7 @@ fn build(alloc: Global, asked: &SearchRequest<'_>) -> Result<Option<Searcher>, A
     builder.build()
 }
 
-/// The matches that an iteration gives, and what it counted.
+/// The matches that an iteration gives, and its steps.
 fn taken_in_turn(
     alloc: Global,
     searcher: &Searcher,

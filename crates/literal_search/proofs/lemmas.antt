@@ -8,13 +8,14 @@ pub mod Callers
 pub mod Chains
 pub mod Check
 pub mod Classes
+pub mod Count
 pub mod Ends
 pub mod EndsFound
 pub mod FirstSuffix
 pub mod Found
 pub mod Gaps
 pub mod GreedyIn
-pub mod Growing
+pub mod Construction
 pub mod Grown
 pub mod Iterations
 pub mod Leftmost
@@ -36,7 +37,7 @@ pub mod Rows
 pub mod Scan
 pub mod ScanNumbers
 pub mod Shadowed
-pub mod Standing
+pub mod Position
 pub mod States
 pub mod Streams
 pub mod Texts

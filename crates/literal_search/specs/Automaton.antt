@@ -1,5 +1,5 @@
 -- The automaton of a search for every occurrence, for loops of callers. Contracts see it as its tables, and a state as
--- its number.
+-- a number.
 use Rattle.std.specs.Prelude.{◌≡◌, ℕ, ◌+◌, ◌<◌, Bool, List, length, slice_index}
 use Rattle.std.specs.List.{All, AllPairs, Contains}
 use Rattle.literal_base.specs.declared.search.Span.{Span}
@@ -22,7 +22,7 @@ OccursAtEnd patterns ignore_case haystack span i =
     (start : ℕ) × Occurs patterns ignore_case haystack span i start
     × (start + length (pattern_at patterns i) ≡ span.end)
 
--- these are the numbers of all patterns that occur at the end of the span, ascending
+-- these are the numbers of all patterns that occur at the end of the span, in ascending order
 pub record AreAtEnd (patterns : List (List ℕ)) (ignore_case : Bool) (haystack : List ℕ) (span : Span) (all : List ℕ)
     : Type 0 where
   pub ascend : AllPairs (λ i other. i < other) all

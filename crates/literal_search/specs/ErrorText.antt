@@ -1,4 +1,4 @@
--- What errors print.
+-- The messages of errors.
 use Rattle.std.specs.Prelude.{ℕ, List, ◌++◌, codes}
 use Rattle.std.specs.Fmt.{decimal}
 use Rattle.literal_search.specs.declared.BuildError.{BuildError}
@@ -10,23 +10,23 @@ use Rattle.literal_search.specs.declared.replace.ReplaceError.TheVariants as rep
 use Rattle.literal_search.specs.declared.replace_stream.ReplaceStreamError.{ReplaceStreamError}
 use Rattle.literal_search.specs.declared.replace_stream.ReplaceStreamError.TheVariants as stream
 
--- what is printed of why there is no automaton
+-- the message that says why there is no automaton
 abbrev pub build_error_text : BuildError → List ℕ
 build_error_text (EmptyPattern number) = codes "pattern " ++ decimal number ++ codes " is empty"
 build_error_text OutOfMemory = codes "out of memory"
 build_error_text TooManyPatterns = codes "too many patterns"
 build_error_text TooManyStates = codes "the patterns need too many states"
 
--- what is printed of an array that is too short for a search
+-- the message that says that an array is too short for a search
 abbrev pub array_too_short_text : ArrayTooShort → List ℕ
 array_too_short_text error = codes "the array needs " ++ decimal error.needed ++ codes " places"
 
--- what is printed of why matches are not replaced
+-- the message that says why matches are not replaced
 abbrev pub replace_error_text : ReplaceError → List ℕ
 replace_error_text replace.NotOneForEach = codes "there is not one replacement for each pattern"
 replace_error_text replace.OutOfMemory = codes "out of memory"
 
--- what is printed of why a text is not read and written with its matches replaced
+-- the message that says why a text is not read and written with its matches replaced
 abbrev pub replace_stream_error_text : ReplaceStreamError → List ℕ
 replace_stream_error_text stream.NotOneForEach = codes "there is not one replacement for each pattern"
 replace_stream_error_text stream.OutOfMemory = codes "out of memory"

@@ -1,10 +1,11 @@
--- What models and private functions alone cite.
+-- Definitions that only models and private functions use.
 pub mod Backward
 pub mod Classes
+pub mod Count
 pub mod Search
 pub mod Shadowed
 pub mod Suffixes
-pub mod Growing
+pub mod Construction
 pub mod Grown
 pub mod Leftmost
 pub mod Kept
@@ -18,7 +19,7 @@ pub mod Prepared
 pub mod Rewriting
 pub mod Rows
 pub mod Scan
-pub mod Standing
+pub mod Position
 pub mod Stream
 pub mod Walk
 pub mod WholeWords

@@ -1,4 +1,4 @@
--- Everything that occurs, in the order of ends, and a search for it as contracts see it.
+-- Every occurrence, in the order of ends, and the search for it as contracts see it.
 use Rattle.std.specs.Prelude.{◌≡◌, ◌⊎◌, ℕ, ◌+◌, ◌<◌, Bool, List, length, Option, true}
 use Rattle.std.specs.Borrow.{Bor}
 use Rattle.std.specs.List.{All, AllPairs, IsAmong}
@@ -13,18 +13,23 @@ pub record IsOccurrence (patterns : List (List ℕ)) (ignore_case : Bool) (hayst
   pub occurs : Occurs patterns ignore_case haystack span found.pattern found.start
   pub whole : found.end ≡ found.start + length (pattern_at patterns found.pattern)
 
--- of two occurrences one comes before the other: it ends earlier, or at the same place and has the smaller identifier
+-- one occurrence comes before another: it ends earlier, or at the same offset and has the smaller pattern number
 abbrev pub ComesBefore : MatchValue → MatchValue → Type 0
 ComesBefore one other = (one.end < other.end) ⊎ ((one.end ≡ other.end) × (one.pattern < other.pattern))
 
--- a list has every occurrence in the span, once, in that order
+-- the list has every occurrence in the span once, in that order
 pub record IsOverlapping (patterns : List (List ℕ)) (ignore_case : Bool) (haystack : List ℕ) (span : Span)
     (all : List MatchValue) : Type 0 where
   pub each : All (IsOccurrence patterns ignore_case haystack span) all
   pub ordered : AllPairs ComesBefore all
   pub every : (found : MatchValue) → IsOccurrence patterns ignore_case haystack span found → IsAmong all found
 
--- a list has every occurrence in the span that passes a test, once, in that order
+-- the number of all occurrences in the span
+abbrev pub IsOverlappingCount : List (List ℕ) → Bool → List ℕ → Span → ℕ → Type 0
+IsOverlappingCount patterns ignore_case haystack span count =
+    (all : List MatchValue) × IsOverlapping patterns ignore_case haystack span all × (count ≡ length all)
+
+-- the list has every occurrence in the span that passes a test once, in that order
 pub record AreAllThat (test : MatchValue → Bool) (patterns : List (List ℕ)) (ignore_case : Bool) (haystack : List ℕ)
     (span : Span) (all : List MatchValue) : Type 0 where
   pub each : All (IsOccurrence patterns ignore_case haystack span) all
@@ -38,7 +43,7 @@ pub record OverlappingValue : Type 0 where
   pub patterns : List (List ℕ)
   pub ignore_case : Bool
 
--- the answer is the search for all the items of an iterator, which can be kept
+-- the answer is the search for all patterns that an iterator gives, which can be kept
 abbrev pub BuildsOverlapping : {U T : Type 0} → (U → T → Type 0) → (T → Option (Bor (List ℕ)) → T → Type 0) → U → Bool
     → OverlappingValue → Type 0
 BuildsOverlapping becomes steps given ignore_case answer =

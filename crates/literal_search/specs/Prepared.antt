@@ -1,4 +1,4 @@
--- A search as numbers in an array that is lent.
+-- A search for leftmost matches as the numbers of a lent array.
 use Rattle.std.specs.Prelude.{◌≡◌, ◌+◌, ◌-◌, ◌*◌, ◌/◌, ◌%◌, ◌^◌, ◌<◌, ◌≤◌, ℕ, Bool, List, length, map, take, drop, fold}
 use Rattle.std.specs.Prelude.{◌==◌, None, Option, Some, if◌then◌else◌, slice_index, slice_range}
 use Rattle.std.specs.Int.Bits.{bit_xor}
@@ -22,19 +22,19 @@ use Rattle.literal_search.specs.declared.prepared.TheConstants.{LENGTHS_AT, PAIR
 use Rattle.literal_search.specs.MatchesValue.{MatchesValue}
 use Rattle.literal_ids.specs.declared.primitives.pattern_id.TheConstants.PatternID
 
--- how many classes of bytes there are, by the third number
+-- the number of byte classes, from the third number
 abbrev pub width_in : List ℕ → ℕ
 width_in numbers = slice_index numbers 2
 
--- where the rows begin, behind a length for each pattern; the fourth number says how many patterns there are
+-- the index at which the rows begin, after a length for each pattern. The fourth number is the number of patterns
 abbrev pub rows_at : List ℕ → ℕ
 rows_at numbers = LENGTHS_AT + slice_index numbers 3
 
--- where the rows end; the fifth number says how long they are
+-- the index at which the rows end. The fifth number is their length
 abbrev pub rows_end : List ℕ → ℕ
 rows_end numbers = rows_at numbers + slice_index numbers 4
 
--- how long the longest pattern is, by the sixth number
+-- the length of the longest pattern, from the sixth number
 abbrev pub longest_in : List ℕ → ℕ
 longest_in numbers = slice_index numbers 5
 
@@ -46,25 +46,24 @@ lengths_in numbers = slice_range numbers LENGTHS_AT (rows_at numbers)
 abbrev pub rows_in : List ℕ → List ℕ
 rows_in numbers = slice_range numbers (rows_at numbers) (rows_end numbers)
 
--- where the 256 numbers behind the rows end
+-- the index at which the 256 numbers after the rows end
 abbrev pub classes_end : List ℕ → ℕ
 classes_end numbers = rows_end numbers + CLASSES_LEN
 
--- the classes of all bytes: each of the first 64 of these holds four, the first in its lowest eight bits
+-- the class of each byte: the first 64 of these numbers hold four each, the first in the lowest eight bits
 abbrev pub classes_in : List ℕ → List ℕ
 classes_in numbers = unpacked (slice_range numbers (rows_end numbers) (rows_end numbers + PACKED_LEN))
 
--- the first of such numbers: one more than the number of bytes that a scan for candidates skips, and 0 if there is no
--- scan
+-- the first number of a scan for candidates: one more than the number of bytes that it skips, or 0 if there is no scan
 abbrev pub past_skipped : List ℕ → ℕ
 past_skipped prints = slice_index prints 0
 
--- the rare pair in eight bytes: there is one if the first is not 0
+-- the rare pair in eight bytes, if the first of them is not 0
 abbrev pub pair_of : List ℕ → Option RarePair
 pair_of bytes = if slice_index bytes 0 == 0 then None else Some (pair_in bytes)
 
--- the scan by such numbers: the fingerprints and the pair whose bytes they hold, each four of them, the first in its
--- lowest eight bits
+-- the scan for candidates in such numbers. They hold the bytes of the fingerprints and of the rare pair, four each, the
+-- first in the lowest eight bits
 unfoldable pub scan_by : List ℕ → CandidateScan
 scan_by prints = record {
   fingerprints = fingerprints_in (unpacked (slice_range prints 1 PAIR_AT));
@@ -72,14 +71,39 @@ scan_by prints = record {
   skipped = (past_skipped prints - 1) % 256;
 }
 
--- a number of 32 bits, stirred so that no other becomes the same: its upper half is xored into its lower one, and then
--- it is multiplied by an odd factor, in 32 bits
+-- a number of 32 bits, mixed so that different numbers stay different: its upper half is xored into the lower one, and
+-- the result is multiplied by an odd factor, in 32 bits
 abbrev pub stirred : ℕ → ℕ
 stirred number = bit_xor number (number / 2 ^ 16) * 16777619 % 2 ^ 32
 
--- a check over numbers: from a number that is not zero on, each of them is added in 32 bits, and the sum is stirred
+-- a checksum after one more number, which is added in 32 bits; the sum is mixed
+abbrev pub check_with : ℕ → ℕ → ℕ
+check_with check number = stirred ((check + number) % 2 ^ 32)
+
+-- four checksums. The first takes the next number and then becomes the fourth, so each takes every fourth number
+pub record Checks : Type 0 where
+  pub first : ℕ
+  pub second : ℕ
+  pub third : ℕ
+  pub fourth : ℕ
+
+-- the four checksums after one more number
+abbrev pub checks_with : Checks → ℕ → Checks
+checks_with c number =
+    record { first = c.second; second = c.third; third = c.fourth; fourth = check_with c.first number }
+
+-- two checksums as one: the other one is added, and the sum is mixed twice
+abbrev pub joined_with : ℕ → ℕ → ℕ
+joined_with check other = check_with (check_with check other) 0
+
+-- four checksums as one
+abbrev pub check_of_four : Checks → ℕ
+check_of_four c = joined_with (joined_with (joined_with (joined_with 0 c.first) c.second) c.third) c.fourth
+
+-- the checksum of a list of numbers. At the start, one of the four checksums is not zero
 unfoldable pub check_of : List ℕ → ℕ
-check_of numbers = fold (λ check number. stirred ((check + number) % 2 ^ 32)) 2166136261 numbers
+check_of numbers =
+    check_of_four (fold checks_with (record { first = 2166136261; second = 0; third = 0; fourth = 0 }) numbers)
 
 -- the first number is a version, there are identifiers for the patterns, and the array is as long as its numbers say
 pub record HasParts (version : ℕ) (numbers : List ℕ) : Type 0 where
@@ -87,8 +111,7 @@ pub record HasParts (version : ℕ) (numbers : List ℕ) : Type 0 where
   pub few : slice_index numbers 3 ≤ PatternID.LIMIT
   pub fits : classes_end numbers ≤ length numbers
 
--- numbers that are for a search are written into the first places of an array, as many as it takes, and the others stay
--- as they were
+-- the numbers of a search are written into the first entries of an array, and the others are unchanged
 pub record WritesNumbers (AreFor : List ℕ → Type 0) (Takes : ℕ → Type 0) (old new : List ℕ) (needed : ℕ) : Type 0 where
   pub len : length new ≡ length old
   pub fits : needed ≤ length new
@@ -100,13 +123,13 @@ pub record WritesNumbers (AreFor : List ℕ → Type 0) (Takes : ℕ → Type 0)
 abbrev pub AreShort : List (List ℕ) → Type 0
 AreShort patterns = All (λ (bytes : List ℕ). length bytes < 2 ^ 32) patterns
 
--- a match lies in the span, and is not empty
+-- the match lies in the span, and is not empty
 pub record LiesIn (span : Span) (found : MatchValue) : Type 0 where
   pub start : span.start ≤ found.start
   pub some : found.start < found.end
   pub end : found.end ≤ span.end
 
--- what a search from the right reads: classes of bytes, rows, and how long the longest pattern is
+-- the tables of a backward walk: byte classes, rows, and the length of the longest pattern
 pub record BackTables : Type 0 where
   pub search : SearchValue
   pub classes : List ℕ
@@ -114,16 +137,16 @@ pub record BackTables : Type 0 where
   pub rows : List ℕ
   pub longest : ℕ
 
--- the classes of the patterns' bytes
+-- the patterns as texts of classes
 abbrev pub texts_of : BackTables → List (List ℕ)
 texts_of t = map (symbols_in t.classes) t.search.query.patterns
 
--- those by which a search goes, read from their ends
+-- the texts by which a search walks, each reversed
 abbrev pub texts_back : BackTables → List (List ℕ)
 texts_back t = reversed (unshadowed t.search.query.kind (texts_of t))
 
--- each byte has a class, by which those of the patterns are told from others, and no pattern has a byte of the last one
--- unless each byte has its own; the rows are those of the reversed texts, and no pattern is empty
+-- each byte has a class, which distinguishes the bytes of the patterns. No pattern has a byte of the last class, unless
+-- there are 256 classes. The rows are those of the reversed texts, and no pattern is empty
 pub record AreBackTables (t : BackTables) : Type 0 where
   pub classes : AreClasses t.classes t.width
   pub tells : Tells t.search.ignore_case t.classes t.search.query.patterns
@@ -132,7 +155,7 @@ pub record AreBackTables (t : BackTables) : Type 0 where
   pub longest : t.longest ≡ longest_of t.search.query.patterns
   pub kept : CanBeKept t.search.query.patterns
 
--- how many numbers are those of the search: behind the classes stand those of its scan for candidates
+-- the number of entries of the search. The scan for candidates comes last, after the classes
 abbrev pub prepared_len : List ℕ → ℕ
 prepared_len numbers = classes_end numbers + SCAN_LEN
 
@@ -140,13 +163,13 @@ prepared_len numbers = classes_end numbers + SCAN_LEN
 abbrev pub prints_in : List ℕ → List ℕ
 prints_in numbers = slice_range numbers (classes_end numbers) (prepared_len numbers)
 
--- the array has the parts of a search for all leftmost matches, and is as long as these are; there is a row
+-- the array has the parts of a search for leftmost matches, is at least as long as they are, and has a row
 pub record HasAllParts (numbers : List ℕ) : Type 0 where
   pub parts : HasParts PREPARED_VERSION numbers
   pub fits : prepared_len numbers ≤ length numbers
   pub row : 0 < slice_index numbers 4
 
--- the same, and the second number is the check over those of the search behind it
+-- the array has the parts of `HasAllParts`, and the second number is the checksum of the search's numbers after it
 pub record IsWhole (numbers : List ℕ) : Type 0 where
   pub parts : HasAllParts numbers
   pub check : slice_index numbers 1 ≡ check_of (slice_range numbers 2 (prepared_len numbers))
@@ -161,23 +184,23 @@ back_tables_in search numbers = record {
   longest = longest_in numbers;
 }
 
--- the scan by such numbers stops at each of some patterns, if they are of a scan
+-- if such numbers describe a scan for candidates, it stops at each of the patterns
 abbrev pub ArePrints : List (List ℕ) → Bool → List ℕ → Type 0
 ArePrints patterns ignore_case prints = 0 < past_skipped prints → StopsAtEach (scan_by prints) ignore_case patterns
 
--- the array begins with a whole search for all leftmost matches: with its tables, the length of each pattern, and
--- a scan that stops at each of them, if any
+-- the array begins with a whole search for leftmost matches: with its tables, the length of each pattern, and a scan
+-- that stops at each pattern, if there is one
 pub record IsPrepared (search : SearchValue) (numbers : List ℕ) : Type 0 where
   pub whole : IsWhole numbers
   pub tables : AreBackTables (back_tables_in search numbers)
   pub lengths : lengths_in numbers ≡ map (λ bytes. length bytes) search.query.patterns
   pub prints : ArePrints search.query.patterns search.ignore_case (prints_in numbers)
 
--- what holds of whatever search for all leftmost matches an array is prepared for
+-- a property holds of every search for leftmost matches for which the array is prepared
 abbrev pub ForPrepared : List ℕ → (SearchValue → Type 0) → Type 0
 ForPrepared numbers P = (search : SearchValue) → IsPrepared search numbers → P search
 
--- how many places a search takes: those of the header, one for each pattern, the rows of all states, the classes, and
+-- the number of entries that a search takes: the header, one for each pattern, the rows of all states, the classes, and
 -- the scan for candidates
 unfoldable pub TakesPlaces : SearchValue → ℕ → Type 0
 TakesPlaces search needed =
@@ -186,18 +209,19 @@ TakesPlaces search needed =
     × (needed ≡ LENGTHS_AT + length search.query.patterns + rows + CLASSES_LEN + SCAN_LEN))
     search.ignore_case search.query.patterns
 
--- the search is written into the first places of an array
+-- the search is written into the first entries of an array
 abbrev pub WritesPrepared : SearchValue → List ℕ → List ℕ → ℕ → Type 0
 WritesPrepared search = WritesNumbers (IsPrepared search) (TakesPlaces search)
 
--- why it is not: the array has fewer places than it takes, which would be enough
+-- why an array is refused: it has fewer entries than the search takes. An array with just these entries would be long
+-- enough
 abbrev pub RefusesToPrepare : SearchValue → List ℕ → ArrayTooShort → Type 0
 RefusesToPrepare search array error =
     (length array < error.needed) × TakesPlaces search error.needed
     × ((numbers : List ℕ) × IsPrepared search numbers × (length numbers ≡ error.needed))
 
--- a `PreparedMatches` as contracts see it: by which array, where, from which place it goes on, and up to which
--- place it has looked
+-- a `PreparedMatches` as contracts see it: the array, the haystack, the span, the offset from which it continues, and
+-- the offset up to which it has looked
 pub record PreparedMatchesValue : Type 0 where
   pub numbers : List ℕ
   pub haystack : List ℕ
@@ -205,7 +229,7 @@ pub record PreparedMatchesValue : Type 0 where
   pub at : ℕ
   pub known : ℕ
 
--- the same for a search that the array is prepared for
+-- the same iteration by a search for which the array is prepared
 abbrev pub matches_for : SearchValue → PreparedMatchesValue → MatchesValue
 matches_for search m =
     record { search = search; haystack = m.haystack; span = m.span; at = m.at; known = m.known }

@@ -1,4 +1,4 @@
--- A search for everything that occurs as numbers in an array that is lent.
+-- A search for every occurrence as the numbers of a lent array.
 use Rattle.std.specs.Prelude.{◌≡◌, ◌⊎◌, ◌+◌, ◌<◌, ◌≤◌, ℕ, Bool, List, length, map, slice_index, slice_range}
 use Rattle.literal_base.specs.declared.search.Span.{Span}
 use Rattle.literal_search.specs.SearchValue.{CanBeKept, HoldsInClasses, longest_of, width_for}
@@ -14,8 +14,8 @@ use Rattle.literal_search.specs.declared.classes.TheConstants.{CLASSES_LEN}
 use Rattle.literal_search.specs.declared.prepared.ArrayTooShort.{ArrayTooShort}
 use Rattle.literal_search.specs.declared.prepared.TheConstants.{SCAN_LEN, LENGTHS_AT, OVERLAPPING_VERSION}
 
--- what a search for everything that occurs of patterns reads: classes of bytes, rows, and lists of the patterns that
--- are a suffix of each, one behind another, and where each begins
+-- the tables of a search for every occurrence: byte classes, rows, for each pattern a list of the patterns that are its
+-- suffixes, all in one list, and the index at which each begins
 pub record Tables : Type 0 where
   pub patterns : List (List ℕ)
   pub ignore_case : Bool
@@ -25,16 +25,16 @@ pub record Tables : Type 0 where
   pub ends : List ℕ
   pub starts : List ℕ
 
--- the search that the tables are of, as contracts see it
+-- the search to which the tables belong, as contracts see it
 abbrev pub overlapping_value : Tables → OverlappingValue
 overlapping_value t = record { patterns = t.patterns; ignore_case = t.ignore_case }
 
--- the classes of the patterns' bytes
+-- the patterns as texts of classes
 abbrev pub texts_in : Tables → List (List ℕ)
 texts_in t = map (symbols_in t.classes) t.patterns
 
--- each byte has a class, by which those of the patterns are told from others; the rows are those of the patterns'
--- texts in these classes, and the lists are those of the patterns that are a suffix of one; none is empty
+-- each byte has a class, which distinguishes the bytes of the patterns. The rows are those of the patterns' texts in
+-- these classes, the lists are those of the patterns that are suffixes of a pattern, and no pattern is empty
 pub record AreTables (t : Tables) : Type 0 where
   pub classes : AreClasses t.classes t.width
   pub tells : Tells t.ignore_case t.classes t.patterns
@@ -47,15 +47,15 @@ pub record AreSized (t : Tables) : Type 0 where
   pub width : t.width ≡ width_for t.ignore_case t.patterns
   pub rows : IsRowsLength (texts_in t) t.width (length t.rows)
 
--- where the lists begin, behind a number for each pattern that says where its list does, and one more
+-- the index at which the lists begin, after a number for each pattern that says where its list begins, and one more
 abbrev pub ends_at : List ℕ → ℕ
 ends_at numbers = classes_end numbers + slice_index numbers 3 + 1
 
--- where the lists end; the last of the numbers before them says how long they are
+-- the index at which the lists end. The last number before them is their length
 abbrev pub listed_len : List ℕ → ℕ
 listed_len numbers = ends_at numbers + slice_index numbers (classes_end numbers + slice_index numbers 3)
 
--- where each list begins, and the last ends
+-- where each list begins, and where the last ends
 abbrev pub starts_in : List ℕ → List ℕ
 starts_in numbers = slice_range numbers (classes_end numbers) (ends_at numbers)
 
@@ -63,21 +63,20 @@ starts_in numbers = slice_range numbers (classes_end numbers) (ends_at numbers)
 abbrev pub ends_in : List ℕ → List ℕ
 ends_in numbers = slice_range numbers (ends_at numbers) (listed_len numbers)
 
--- how many numbers are those of the search: behind its lists stand those of its scan for candidates
+-- the number of entries of the search. The scan for candidates comes last, after the lists
 abbrev pub overlapping_len : List ℕ → ℕ
 overlapping_len numbers = listed_len numbers + SCAN_LEN
 
 -- the numbers of its scan for candidates
-abbrev pub prints_behind : List ℕ → List ℕ
-prints_behind numbers = slice_range numbers (listed_len numbers) (overlapping_len numbers)
+abbrev pub prints_after : List ℕ → List ℕ
+prints_after numbers = slice_range numbers (listed_len numbers) (overlapping_len numbers)
 
--- the array has the parts of a search for everything that occurs, and is as long as these, its lists and its
--- scan for candidates are
+-- the array has the parts of a search for every occurrence, and is at least as long as they say
 pub record HasLists (numbers : List ℕ) : Type 0 where
   pub parts : HasParts OVERLAPPING_VERSION numbers
   pub fits : overlapping_len numbers ≤ length numbers
 
--- the same, and the second number is the check over those of the search behind it
+-- the array has the parts of `HasLists`, and the second number is the checksum of the search's numbers after it
 pub record IsWholeOverlapping (numbers : List ℕ) : Type 0 where
   pub lists : HasLists numbers
   pub check : slice_index numbers 1 ≡ check_of (slice_range numbers 2 (overlapping_len numbers))
@@ -94,22 +93,21 @@ tables_in search numbers = record {
   starts = starts_in numbers;
 }
 
--- the array begins with a whole search for everything that occurs: with the length of the longest pattern, its tables,
--- the length of each pattern, and a scan that stops at each of them, if any
+-- the array begins with a whole search for every occurrence: with the length of the longest pattern, its tables, the
+-- length of each pattern, and a scan that stops at each pattern, if there is one
 pub record IsPreparedOverlapping (search : OverlappingValue) (numbers : List ℕ) : Type 0 where
   pub whole : IsWholeOverlapping numbers
   pub longest : longest_in numbers ≡ longest_of search.patterns
   pub tables : AreTables (tables_in search numbers)
   pub lengths : lengths_in numbers ≡ map (λ bytes. length bytes) search.patterns
-  pub prints : ArePrints search.patterns search.ignore_case (prints_behind numbers)
+  pub prints : ArePrints search.patterns search.ignore_case (prints_after numbers)
 
--- what holds of whatever search for everything that occurs an array is prepared for
+-- a property holds of every search for every occurrence for which the array is prepared
 abbrev pub ForOverlapping : List ℕ → (OverlappingValue → Type 0) → Type 0
 ForOverlapping numbers P = (search : OverlappingValue) → IsPreparedOverlapping search numbers → P search
 
--- how many places a search takes, in some classes, by rows for its patterns' texts, and lists: the header, one for each
--- pattern, the rows of all states, the classes, the lists with the places where these begin, and the scan for
--- candidates
+-- the number of entries that a search takes: the header, one for each pattern, the rows of all states, the classes, the
+-- lists and where they begin, and the scan for candidates
 unfoldable pub TakesListedPlaces : OverlappingValue → ℕ → Type 0
 TakesListedPlaces search needed =
     HoldsInClasses (λ texts width. (rows : ℕ) × IsRowsLength texts width rows
@@ -117,18 +115,19 @@ TakesListedPlaces search needed =
     × (needed ≡ LENGTHS_AT + length search.patterns + rows + CLASSES_LEN + length starts + length ends
     + SCAN_LEN)) search.ignore_case search.patterns
 
--- the search is written into the first places of an array
+-- the search is written into the first entries of an array
 abbrev pub WritesOverlapping : OverlappingValue → List ℕ → List ℕ → ℕ → Type 0
 WritesOverlapping search = WritesNumbers (IsPreparedOverlapping search) (TakesListedPlaces search)
 
--- why it is not: the array has fewer places than it takes, which would be enough
+-- why an array is refused: it has fewer entries than the search takes. An array with just these entries would be long
+-- enough
 abbrev pub RefusesOverlapping : OverlappingValue → List ℕ → ArrayTooShort → Type 0
 RefusesOverlapping search array error =
     (length array < error.needed) × TakesListedPlaces search error.needed
     × ((numbers : List ℕ) × IsPreparedOverlapping search numbers × (length numbers ≡ error.needed))
 
--- a `PreparedOverlappingMatches` as contracts see it: by which array, where, and from which end and, at that one, from
--- which identifier on it goes on
+-- a `PreparedOverlappingMatches` as contracts see it: the array, the haystack, the span, and the end and pattern number
+-- from which it continues
 pub record PreparedOverlappingMatchesValue : Type 0 where
   pub numbers : List ℕ
   pub haystack : List ℕ
@@ -136,15 +135,16 @@ pub record PreparedOverlappingMatchesValue : Type 0 where
   pub end : ℕ
   pub pattern : ℕ
 
--- the same for a search that the array is prepared for
+-- the same iteration by a search for which the array is prepared
 abbrev pub matches_for : OverlappingValue → PreparedOverlappingMatchesValue → OverlappingMatchesValue
 matches_for search m =
     record { search = search; haystack = m.haystack; span = m.span; end = m.end; pattern = m.pattern }
 
--- it stands at the end of the span, behind the last pattern, of which there are as many as the fourth number says
+-- the iteration is at the end of the span, past the last pattern number. The fourth number is the number of patterns
 abbrev pub HasEnded : PreparedOverlappingMatchesValue → Type 0
 HasEnded m = (m.end ≡ m.span.end) × (m.pattern ≡ slice_index m.numbers 3)
 
--- an end and an identifier do not come before others: the end is greater, or the same and the identifier no smaller
+-- an end and a pattern number do not come before others: the end is greater, or the same and the pattern number no
+-- smaller
 abbrev pub IsNotBefore : ℕ → ℕ → ℕ → ℕ → Type 0
 IsNotBefore end pattern other_end other_pattern = (other_end < end) ⊎ ((other_end ≡ end) × (other_pattern ≤ pattern))

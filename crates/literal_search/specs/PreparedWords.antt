@@ -1,4 +1,4 @@
--- Whole words by an array that is lent: `PreparedWords`, as contracts see it.
+-- Whole words by a lent array: `PreparedWords`, as contracts see it.
 use Rattle.std.specs.Prelude.{◌≡◌, ℕ, Bool, List}
 use Rattle.literal_base.specs.declared.packed.MatchKind.{MatchKind}
 use Rattle.literal_base.specs.declared.packed.MatchKind.TheVariants.{LeftmostLongest}
@@ -7,28 +7,27 @@ use Rattle.literal_search.specs.Prepared.{ForPrepared}
 use Rattle.literal_search.specs.SearchValue.{SearchValue, search_by}
 use Rattle.literal_search.specs.WholeWords.{WholeWordMatchesValue, WholeWordsValue}
 
--- a `PreparedWords` as contracts see it: the kind by which a word is taken, the array, and a test for each byte whether
--- it is a word byte
+-- a `PreparedWords` as contracts see it: the match kind, the array, and for each byte whether it is a word byte
 pub record PreparedWordsValue : Type 0 where
   pub kind : MatchKind
   pub numbers : List ℕ
   pub word_bytes : List Bool
 
--- the search for whole words that it is, if the array is prepared for a search
+-- the search for whole words, if the array is prepared for this search
 abbrev pub words_for : SearchValue → PreparedWordsValue → WholeWordsValue
 words_for search words = record {
   search = search_by words.kind search.ignore_case search.query.patterns;
   word_bytes = words.word_bytes;
 }
 
--- what holds of the search for whole words, if the array is prepared for a search that takes the longest match; of an
--- array that is prepared by the other kind it says nothing
+-- a property holds of the search for whole words, if the array is prepared for a search that prefers the longest match.
+-- Of an array of the other kind this says nothing
 abbrev pub ForWholeWords : PreparedWordsValue → (WholeWordsValue → Type 0) → Type 0
 ForWholeWords words P =
     ForPrepared words.numbers (λ search. search.query.kind ≡ LeftmostLongest → P (words_for search words))
 
--- a `PreparedWordMatches` as contracts see it: by which search, where, the place from which it goes on, the place from
--- which it looks for the next pattern, and up to which place it has looked
+-- a `PreparedWordMatches` as contracts see it: the search, the haystack, the span, the offset from which it continues,
+-- the offset from which it looks for the next pattern, and the offset up to which it has looked
 pub record PreparedWordMatchesValue : Type 0 where
   pub words : PreparedWordsValue
   pub haystack : List ℕ
@@ -37,7 +36,7 @@ pub record PreparedWordMatchesValue : Type 0 where
   pub from : ℕ
   pub known : ℕ
 
--- the same for a search for whole words
+-- the same iteration by a search for whole words
 abbrev pub word_matches_by : PreparedWordMatchesValue → WholeWordsValue → WholeWordMatchesValue
 word_matches_by m words = record {
   words = words;

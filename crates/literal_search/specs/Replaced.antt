@@ -15,14 +15,17 @@ use Rattle.literal_search.specs.declared.replace.ReplaceError.TheVariants.{NotOn
 use Rattle.literal_search.specs.declared.replace_stream.ReplaceStreamError.{ReplaceStreamError}
 use Rattle.literal_search.specs.declared.replace_stream.ReplaceStreamError.TheVariants as stream
 
--- the text from an offset on, with the replacement of its pattern in place of each match, and as it is between them
-abbrev pub replaced : List ℕ → List (List ℕ) → ℕ → List MatchValue → List ℕ
-replaced text replacements at [] = slice_range text at (length text)
-replaced text replacements at (found ∷ more) =
-    slice_range text at found.start ++ (pattern_at replacements found.pattern
-    ++ replaced text replacements found.end more)
+-- the text from an offset on, with each match replaced by the bytes that a function gives for it
+abbrev pub replaced_by : (MatchValue → List ℕ) → List ℕ → ℕ → List MatchValue → List ℕ
+replaced_by bytes_for text at [] = slice_range text at (length text)
+replaced_by bytes_for text at (found ∷ more) =
+    slice_range text at found.start ++ (bytes_for found ++ replaced_by bytes_for text found.end more)
 
--- the matches of the greedy list, each replaced: there is a replacement for each pattern
+-- `replaced_by` with the replacement of the match's pattern
+abbrev pub replaced : List ℕ → List (List ℕ) → ℕ → List MatchValue → List ℕ
+replaced text replacements = replaced_by (λ found. pattern_at replacements found.pattern) text
+
+-- each match of the greedy list is replaced, and there is one replacement for each pattern
 pub record IsReplaced (search : SearchValue) (text : List ℕ) (replacements : List (List ℕ)) (answer : List ℕ)
     : Type 0 where
   pub one_for_each : length replacements ≡ length search.query.patterns
@@ -30,13 +33,14 @@ pub record IsReplaced (search : SearchValue) (text : List ℕ) (replacements : L
   pub are_greedy : IsGreedy search.query search.ignore_case text 0 matches
   pub is_replaced : answer ≡ replaced text replacements 0 matches
 
--- why they are not: there are not as many replacements as patterns; or memory was refused, for a text that is not empty
+-- why matches are not replaced: the number of replacements is not the number of patterns, or memory was refused for an
+-- answer that is not empty
 abbrev pub RefusesToReplace : SearchValue → List ℕ → List (List ℕ) → ReplaceError → Type 0
 RefusesToReplace search text replacements NotOneForEach = ¬ length replacements ≡ length search.query.patterns
 RefusesToReplace search text replacements OutOfMemory =
     (answer : List ℕ) × IsReplaced search text replacements answer × (0 < length answer)
 
--- the whole words of a text that do not overlap, each replaced: there is a replacement for each pattern
+-- each whole word of a text, of those that do not overlap, is replaced, and there is one replacement for each pattern
 pub record AreWordsReplaced (words : WholeWordsValue) (text : List ℕ) (replacements : List (List ℕ)) (answer : List ℕ)
     : Type 0 where
   pub one_for_each : length replacements ≡ length words.search.query.patterns
@@ -44,15 +48,15 @@ pub record AreWordsReplaced (words : WholeWordsValue) (text : List ℕ) (replace
   pub are_words : AreWholeWords words text (whole_of text) matches
   pub is_replaced : answer ≡ replaced text replacements 0 matches
 
--- why they are not: there are not as many replacements as patterns; or memory was refused, for a text that is not empty
+-- why whole words are not replaced, as in `RefusesToReplace`
 abbrev pub RefusesToReplaceWords : WholeWordsValue → List ℕ → List (List ℕ) → ReplaceError → Type 0
 RefusesToReplaceWords words text replacements NotOneForEach =
     ¬ length replacements ≡ length words.search.query.patterns
 RefusesToReplaceWords words text replacements OutOfMemory =
-    (length replacements ≡ length words.search.query.patterns) × (0 < length text)
+    (answer : List ℕ) × AreWordsReplaced words text replacements answer × (0 < length answer)
 
--- a text is written up to a place, with its matches replaced: whatever follows the text, with what is put in place of
--- all behind that place it makes the whole
+-- a text is written up to an offset, with its matches replaced. Whatever follows the text: this, followed by the rest
+-- with its matches replaced, is the whole with its matches replaced
 pub record IsReplacedUpTo (search : SearchValue) (text : List ℕ) (replacements : List (List ℕ)) (at : ℕ)
     (answer : List ℕ) : Type 0 where
   pub within : at ≤ length text
@@ -71,7 +75,7 @@ module _ (search : SearchValue) (replacements : List (List ℕ)) (unread left he
     pub is_replaced : IsReplaced search text replacements answer
     pub writes : Appends held written answer
 
-  -- what was read of a text is written, with its matches replaced, but for some of its last bytes, fewer than the
+  -- the text that was read is written with its matches replaced, except for some of its last bytes, fewer than the
   -- longest pattern has
   pub record RewritesPart : Type 0 where
     pub text : List ℕ
@@ -82,8 +86,9 @@ module _ (search : SearchValue) (replacements : List (List ℕ)) (unread left he
     pub is_replaced : IsReplacedUpTo search text replacements at answer
     pub writes : Appends held written answer
 
-  -- why a text is not written so: there are not as many replacements as patterns, or memory was refused, and nothing is
-  -- read or written; or a read failed, once what is known was written; or a write failed, where a text was read
+  -- why a text is not written so. The number of replacements is not the number of patterns, or memory was refused; then
+  -- nothing is read or written. Or a read failed, after the known part was written; or a write failed, after a text was
+  -- read
   abbrev pub StopsRewriting : ReplaceStreamError → Type 0
   StopsRewriting stream.NotOneForEach =
       (¬ length replacements ≡ length search.query.patterns) × (left ≡ unread) × (written ≡ held)
@@ -93,8 +98,8 @@ module _ (search : SearchValue) (replacements : List (List ℕ)) (unread left he
   StopsRewriting (stream.WriteFailed error) =
       (length replacements ≡ length search.query.patterns) × ((text : List ℕ) × Consumes unread left text)
 
--- replacing by calls of a function, after some matches: the function, the text that is written, and the offset up to
--- which the haystack stands in it
+-- the progress of replacing by calls of a function: the function, the text written so far, and the offset up to which
+-- the haystack is in it
 pub record WritingValue (F : Type 0) : Type 0 where
   pub writer : F
   pub text : Vec ℕ
@@ -102,8 +107,7 @@ pub record WritingValue (F : Type 0) : Type 0 where
 
 module _ {F : Type 0}
     (step : F → MatchValue → Bor (List ℕ) → MutBor (Vec ℕ) → Result ⊤ AllocError → MutBor (Vec ℕ) → F → Type 0) where
-  -- at a match what stands before it is written, as it is, and then a call with the match and its bytes goes on from
-  -- there
+  -- the bytes up to a match are written unchanged, followed by what a call with the match and its bytes writes
   pub record WritesMatch (haystack : List ℕ) (old : WritingValue F) (found : MatchValue) (new : WritingValue F)
       : Type 0 where
     pub bytes : Bor (List ℕ)
@@ -115,7 +119,7 @@ module _ {F : Type 0}
     pub leaves : behind.now ≡ new.text
     pub goes_on : new.at ≡ found.end
 
-  -- one after another the matches of the greedy list are written by a call each, and then what stands behind the last
+  -- the matches of the greedy list are written by one call each, in order, and then the rest of the haystack
   pub record IsWritten (search : SearchValue) (haystack : List ℕ) (writer : F) (answer : List ℕ) : Type 0 where
     pub matches : List MatchValue
     pub are_greedy : IsGreedy search.query search.ignore_case haystack 0 matches
@@ -125,7 +129,7 @@ module _ {F : Type 0}
     pub is_written : FoldsTo (WritesMatch haystack) first matches last
     pub ends : answer ≡ last.text.items ++ slice_range haystack last.at (length haystack)
 
-  -- the same of the whole words of a haystack that do not overlap
+  -- `IsWritten` for the whole words of a haystack that do not overlap
   pub record AreWordsWritten (words : WholeWordsValue) (haystack : List ℕ) (writer : F) (answer : List ℕ) : Type 0 where
     pub matches : List MatchValue
     pub are_words : AreWholeWords words haystack (whole_of haystack) matches

@@ -1,4 +1,4 @@
--- A search as contracts see it, what it is built from, and what it scans.
+-- A search as contracts see it, how it is built, and what it scans.
 use Rattle.std.specs.Prelude.{◌==◌, [], ◌∷◌, max, min, ◌≡◌, ◌+◌, ◌-◌, ◌*◌, ◌<◌, ◌≤◌, ◌⊎◌, ℕ, Bool, List}
 use Rattle.std.specs.Prelude.{length, Option, Some, map, nat_eq, ◌/◌, None, reverse}
 use Rattle.std.specs.Borrow.{Bor}
@@ -21,12 +21,12 @@ use Rattle.literal_search.specs.declared.backward.TheConstants.{LEAST}
 use Rattle.literal_search.specs.declared.leftmost.TheConstants.{FIRST}
 use Rattle.literal_ids.specs.declared.primitives.pattern_id.TheConstants.PatternID
 
--- a `Search` as contracts see it: the kind and the patterns, and whether ASCII case is ignored
+-- a `Search` as contracts see it: the match kind and the patterns, and whether ASCII case is ignored
 pub record SearchValue : Type 0 where
   pub query : Query
   pub ignore_case : Bool
 
--- the search for the patterns
+-- the search for these patterns
 abbrev pub search_by : MatchKind → Bool → List (List ℕ) → SearchValue
 search_by kind ignore_case patterns =
     record { query = record { kind = kind; patterns = patterns }; ignore_case = ignore_case }
@@ -37,12 +37,12 @@ pub record CanBeKept (patterns : List (List ℕ)) : Type 0 where
   pub few : length patterns ≤ PatternID.LIMIT
 
 module _ {U T : Type 0} (becomes : U → T → Type 0) (steps : T → Option (Bor (List ℕ)) → T → Type 0) (given : U) where
-  -- these are all the items of an iterator, and can be kept
+  -- the iterator gives exactly these patterns, and they can be kept
   abbrev pub GivesAll : List (List ℕ) → Type 0
   GivesAll patterns = (it : T) × (items : List (Bor (List ℕ))) × becomes given it × Drains steps it items
       × (patterns ≡ map (λ p. p.now) items) × CanBeKept patterns
 
-  -- an iterator gives these items, which can be kept, and then one more
+  -- the iterator gives these patterns, which can be kept, and then one more
   pub record GivesNext (patterns : List (List ℕ)) (next : List ℕ) : Type 0 where
     pub iterator : T
     pub items : List (Bor (List ℕ))
@@ -56,13 +56,14 @@ module _ {U T : Type 0} (becomes : U → T → Type 0) (steps : T → Option (Bo
     pub next_is : next ≡ item.now
     pub can_be_kept : CanBeKept patterns
 
-  -- the answer is the search for all the items of an iterator, which can be kept
+  -- the answer is the search for all patterns that an iterator gives, which can be kept
   abbrev pub BuildsSearch : MatchKind → Bool → SearchValue → Type 0
   BuildsSearch kind ignore_case answer =
       (patterns : List (List ℕ)) × GivesAll patterns × (answer ≡ search_by kind ignore_case patterns)
 
-  -- why there is none: an item is the first that is empty, it is not empty and one too many, all items need too many
-  -- states; or memory was refused, for an item that is kept, or after all items, of which there is one or more
+  -- why no search is built: the next pattern is empty; it is not empty, but one too many; all patterns together need
+  -- too many states; or memory was refused, for a pattern that is kept, or after all patterns, of which there is one or
+  -- more
   abbrev pub RefusesSearch : (List (List ℕ) → Type 0) → BuildError → Type 0
   RefusesSearch NeedTooMany (EmptyPattern number) =
       (patterns : List (List ℕ)) × (next : List ℕ) × GivesNext patterns next × (length next ≡ 0)
@@ -76,110 +77,110 @@ module _ {U T : Type 0} (becomes : U → T → Type 0) (steps : T → Option (Bo
       × (length patterns < PatternID.LIMIT))
       ⊎ ((patterns : List (List ℕ)) × GivesAll patterns × (0 < length patterns))
 
--- whether a byte is one of the patterns', once these are folded where case is ignored
+-- whether a byte occurs in the patterns, which are folded if case is ignored
 abbrev pub is_in_patterns : Bool → List (List ℕ) → ℕ → Bool
 is_in_patterns ignore_case patterns byte =
     list_any (λ pattern. list_any (λ b. folded ignore_case b == byte) pattern) patterns
 
--- how many classes there are: one for each such byte and one for all others, at most 256
+-- the number of classes: one for each such byte, and one for all others, at most 256
 unfoldable pub width_for : Bool → List (List ℕ) → ℕ
 width_for ignore_case patterns =
     min (count_by (is_in_patterns ignore_case patterns) (range_with_len 0 256) + 1) 256
 
--- what holds of the patterns' texts in some classes of bytes by which the patterns' bytes are told from others
+-- a property holds of the patterns as texts of classes, in some classes that distinguish the bytes of the patterns
 abbrev pub HoldsInClasses : (List (List ℕ) → ℕ → Type 0) → Bool → List (List ℕ) → Type 0
 HoldsInClasses P ignore_case patterns =
     (classes : List ℕ) × AreClasses classes (width_for ignore_case patterns) × Tells ignore_case classes patterns
     × P (map (symbols_in classes) patterns) (width_for ignore_case patterns)
 
--- the automaton of the patterns has more states than the numbers in its rows reach
+-- the automaton of the patterns has more states than the numbers in its rows can index
 unfoldable pub NeedTooManyStates : Bool → List (List ℕ) → Type 0
 NeedTooManyStates ignore_case patterns = HoldsInClasses HasTooManyStates ignore_case patterns
 
--- the numbers in its rows reach all its states
+-- the numbers in its rows can index all its states
 abbrev pub NeedFewStates : Bool → List (List ℕ) → Type 0
 NeedFewStates ignore_case patterns =
     HoldsInClasses (λ texts width. ¬ HasTooManyStates texts width) ignore_case patterns
 
--- how long the longest of some patterns is, and 0 where there is none
+-- the length of the longest pattern, or 0 if there is none
 abbrev pub longest_of : List (List ℕ) → ℕ
 longest_of [] = 0
 longest_of (bytes ∷ more) = max (length bytes) (longest_of more)
 
--- how long the shortest of some patterns is, and 0 where there is none
+-- the length of the shortest pattern, or 0 if there is none
 abbrev pub shortest_of : List (List ℕ) → ℕ
 shortest_of [] = 0
 shortest_of (bytes ∷ []) = length bytes
 shortest_of (bytes ∷ more) = min (length bytes) (shortest_of more)
 
--- at most three times as many bytes are scanned as the span has
+-- at most three times the bytes of the span are scanned
 pub record ScansThrice (span : Span) (old new : Counts) : Type 0 where
   pub others : new ≡ record old { scanned = new.scanned }
   pub most : new.scanned ≤ old.scanned + 3 * (span.end - span.start)
 
--- up to where the bytes of a span are looked up once it is known what begins before a place: behind that place one
--- fewer than the longest pattern has, but no more than stand before it in the span, and none behind the span
+-- the offset up to which the bytes of a span are looked up once all matches that begin before `known` are known: one
+-- byte less than the longest pattern has after `known`, but no more than the span has before it, and not past the
+-- span's end
 abbrev pub looked_by : ℕ → Span → ℕ → ℕ
 looked_by longest span known = min (known + min (known - span.start) (longest - 1)) span.end
 
--- the same for some patterns
+-- `looked_by` for the longest of some patterns
 abbrev pub looked_upto : List (List ℕ) → Span → ℕ → ℕ
 looked_upto patterns = looked_by (longest_of patterns)
 
--- the first of some texts that is a prefix of a text
+-- the first text in a list that is a prefix of a text
 abbrev pub first_prefix : List (List ℕ) → List ℕ → List ℕ
 first_prefix texts text = unwrap_or (find (λ prefix. starts_with nat_eq text prefix) texts) text
 
--- what a search goes by in the place of each text. If the first one in the list is preferred, a text never matches that
--- has an earlier one as a prefix: the first of these takes its place
+-- the text that a search uses for each pattern. If the first in the list is preferred, a text never matches if an
+-- earlier one is its prefix; the first such prefix replaces it
 abbrev pub unshadowed : MatchKind → List (List ℕ) → List (List ℕ)
 unshadowed LeftmostFirst texts = map (first_prefix texts) texts
 unshadowed LeftmostLongest texts = texts
 
--- each read from its end
+-- each pattern reversed
 abbrev pub reversed : List (List ℕ) → List (List ℕ)
 reversed patterns = map (λ (pattern : List ℕ). reverse pattern) patterns
 
--- the automaton of the reversed patterns has more states than the numbers in its rows reach
+-- the automaton of the reversed patterns has more states than the numbers in its rows can index
 unfoldable pub NeedTooManyReversed : Bool → List (List ℕ) → Type 0
 NeedTooManyReversed ignore_case patterns =
     HoldsInClasses (λ texts width. HasTooManyStates (reversed texts) width) ignore_case patterns
 
--- the numbers in its rows reach all its states
+-- the numbers in its rows can index all its states
 abbrev pub NeedFewReversed : Bool → List (List ℕ) → Type 0
 NeedFewReversed ignore_case patterns =
     HoldsInClasses (λ texts width. ¬ HasTooManyStates (reversed texts) width) ignore_case patterns
 
--- the length of each of the four parts of the first block through which a search goes
+-- the length of each of the four parts of the first block of a search
 abbrev pub first_part : ℕ → ℕ
 first_part longest = max FIRST (longest / 2 + 3)
 
--- how many bytes a search for the leftmost match looks up: at least those of the span where there is none, and else at
--- least those up to its end, and at most eleven times those before it and 36 times the first part
+-- the bytes that a search for the leftmost match looks up: at least those of the span if there is no match, otherwise
+-- at least those up to its end, and at most eleven times those before it plus 36 times the first part
 abbrev pub LooksFor : ℕ → Span → Option MatchValue → ℕ → ℕ → Type 0
 LooksFor longest span None old new = old + (span.end - span.start) ≤ new
 LooksFor longest span (Some found) old new =
     (old + found.end ≤ new + span.start)
     × (new + 11 * span.start ≤ old + 11 * found.start + 36 * first_part longest)
 
--- the same of a tally: at most three times the bytes of the span are scanned
+-- the bytes scanned are as `LooksFor` says, and at most three times those of the span
 pub record ScansWithin (patterns : List (List ℕ)) (span : Span) (answer : Option MatchValue) (old new : Counts)
     : Type 0 where
   pub others : new ≡ record old { scanned = new.scanned }
   pub most : new.scanned ≤ old.scanned + 3 * (span.end - span.start)
   pub counted : LooksFor (longest_of patterns) span answer old.scanned new.scanned
 
--- what the searches for all matches in so many bytes scan, one after another: at most three times these bytes by
--- patterns that are no longer than a block, and else at most eleven times these, and for each match 36 times the first
--- part
+-- the bytes that the searches for all matches scan, one after another: at most three times the searched bytes if no
+-- pattern is longer than a block, and always at most eleven times as many plus 36 times the first part for each match
 pub record ScansListAtMost (patterns : List (List ℕ)) (bytes matches : ℕ) (old new : Counts) : Type 0 where
   pub others : new ≡ record old { scanned = new.scanned }
   pub short : longest_of patterns ≤ LEAST → new.scanned ≤ old.scanned + 3 * bytes
   pub long : new.scanned ≤ old.scanned + 11 * bytes + matches * (36 * first_part (longest_of patterns))
 
--- what the search for the next match of a list scans, from a place on, where it is known up to another what begins, and
--- then further: by patterns that are no longer than a block at most three times as many bytes as it is known further,
--- and at least those that had not been looked up; by longer ones what the search of the rest scans
+-- the bytes that the search for the next match of a list scans. If no pattern is longer than a block, these are at most
+-- three times the bytes by which the known part grows, and at least the bytes that were not looked up before; otherwise
+-- they are those of a search of the rest
 pub record ScansNext (longest : ℕ) (span : Span) (at known further : ℕ) (answer : Option MatchValue) (old new : Counts)
     : Type 0 where
   pub others : new ≡ record old { scanned = new.scanned }
@@ -190,7 +191,7 @@ pub record ScansNext (longest : ℕ) (span : Span) (at known further : ℕ) (ans
   pub found : LEAST < longest → (new.scanned ≤ old.scanned + 3 * (span.end - at))
       × LooksFor longest (between at span.end) answer old.scanned new.scanned
 
--- why there may be no memory for a list: something occurs in the span, or a pattern is longer than a block
+-- why memory may be refused for a list: something occurs in the span, or a pattern is longer than a block
 abbrev pub MayRefuseList : SearchValue → List ℕ → Span → Type 0
 MayRefuseList search haystack span = ¬ NothingOccurs search.query.patterns search.ignore_case haystack span
     ⊎ (LEAST < longest_of search.query.patterns)

@@ -1,4 +1,4 @@
--- Searches in a text of which only a beginning is known, or that is read piece by piece.
+-- Searches in a text of which only a beginning is known, or that is read in pieces.
 use Rattle.std.specs.Prelude.{◌≡◌, ℕ, ◌+◌, ◌-◌, ◌*◌, ◌<◌, ◌≤◌, ◌^◌, ◌++◌, [], Bool, false, true, List}
 use Rattle.std.specs.Prelude.{IfSome, MatchResult, None, Option, Result, Some, drop, length, max, if◌then◌else◌}
 use Rattle.std.specs.Io.KnownBytes.{Consumes, IsAtEnd}
@@ -15,38 +15,38 @@ use Rattle.literal_search.specs.SearchValue.{SearchValue, first_part, longest_of
 use Rattle.literal_search.specs.declared.stream.SoFar.{SoFar}
 use Rattle.literal_search.specs.declared.stream.SoFar.TheVariants.{Found, NoneBefore}
 
--- what is known of the leftmost match in a text, from a place on: which one it is, or a place before which nothing
--- begins
+-- the leftmost match in a text from an offset on, or an offset before which none begins
 abbrev pub AnswersSoFar : Query → Bool → List ℕ → ℕ → SoFar → Type 0
 AnswersSoFar query ignore_case text at (Found found) =
     IsLeftmostMatch query ignore_case text (rest_from text at) found
-AnswersSoFar query ignore_case text at (NoneBefore place) =
-    (i p : ℕ) → Occurs query.patterns ignore_case text (rest_from text at) i p → place ≤ p
+AnswersSoFar query ignore_case text at (NoneBefore offset) =
+    (i p : ℕ) → Occurs query.patterns ignore_case text (rest_from text at) i p → offset ≤ p
 
--- when it is known, by how long the longest pattern is: the match, which is not empty and lies in what is known, where
--- that pattern would fit in between its start and the end of that, and else the first place at which a pattern may
--- begin that goes on behind
+-- when it is known, given the length of the longest pattern. A match is not empty, lies in the known bytes, and the
+-- longest pattern would fit between its start and their end. An offset is the first, from `at` on, at which the longest
+-- pattern would end after the known bytes
 abbrev pub IsKnownBy : ℕ → ℕ → ℕ → SoFar → Type 0
 IsKnownBy longest len at (Found found) = (found.start < found.end) × (found.end ≤ len) × (found.start + longest ≤ len)
-IsKnownBy longest len at (NoneBefore place) = place ≡ max at (len - (longest - 1))
+IsKnownBy longest len at (NoneBefore offset) = offset ≡ max at (len - (longest - 1))
 
--- the same by the longest of some patterns
+-- `IsKnownBy` for the longest of some patterns
 abbrev pub IsKnownSoFar : List (List ℕ) → ℕ → ℕ → SoFar → Type 0
 IsKnownSoFar patterns = IsKnownBy (longest_of patterns)
 
--- what is known of it by any array: a match begins at the place or behind it, and names one of so many patterns
+-- what is known by any array: a match begins at the offset `at` or after it and names one of the patterns, or an offset
+-- is not before `at`
 abbrev pub MayBeKnown : ℕ → ℕ → SoFar → Type 0
 MayBeKnown patterns at (Found found) = (at ≤ found.start) × (found.pattern < patterns)
-MayBeKnown patterns at (NoneBefore place) = at ≤ place
+MayBeKnown patterns at (NoneBefore offset) = at ≤ offset
 
--- up to which byte it is told: the match's end, or the place
+-- the end of the match, or the offset
 abbrev pub told_to : SoFar → ℕ
 told_to (Found found) = found.end
-told_to (NoneBefore place) = place
+told_to (NoneBefore offset) = offset
 
--- what it scans of so many bytes, from a place on, by how long the longest pattern is: at least as many as there are up
--- to where it is told; at most three times as many as there are, and with a match at most eleven times those before it
--- and 36 times the first part
+-- how many bytes it scans, of `len` bytes, from an offset on: at least those up to the end of the match or the answered
+-- offset; at most three times those from there on, and with a match at most eleven times those before it plus 36 times
+-- the first part
 pub record ScansSoFar (longest len at : ℕ) (answer : SoFar) (old new : Counts) : Type 0 where
   pub others : new ≡ record old { scanned = new.scanned }
   pub least : old.scanned + told_to answer ≤ new.scanned + at
@@ -54,9 +54,9 @@ pub record ScansSoFar (longest len at : ℕ) (answer : SoFar) (old new : Counts)
   pub near : (found : MatchValue) → answer ≡ Found found
       → new.scanned + 11 * at ≤ old.scanned + 11 * found.start + 36 * first_part longest
 
--- a `StreamMatches` as contracts see it: what is searched for, the bytes ahead that were read, those that are still to
--- be read, where these are known, how many came before, of what kind the error is with which reading failed, if it did,
--- and whether it is over
+-- a `StreamMatches` as contracts see it: the search, the bytes ahead that were read, the bytes still to be read if they
+-- are known, the offset at which the bytes ahead begin, the kind of the error if reading failed, and whether it has
+-- ended
 pub record StreamValue : Type 0 where
   pub search : SearchValue
   pub held : List ℕ
@@ -65,27 +65,28 @@ pub record StreamValue : Type 0 where
   pub failure : Option ErrorKind
   pub is_over : Bool
 
--- the answer is the leftmost match in the bytes that are ahead, by its offsets in the text, whatever came before
+-- the answer is the leftmost match in the bytes ahead, by its offsets in the text, whatever came before
 abbrev pub IsLeftmostAhead : SearchValue → ℕ → Option MatchValue → List ℕ → Type 0
 IsLeftmostAhead search offset answer ahead = (before : List ℕ) → length before ≡ offset
     → IsLeftmost search.query search.ignore_case (before ++ ahead) (rest_from (before ++ ahead) offset) answer
 
--- whatever came before, no match begins in the bytes ahead from an offset on up to a later one
+-- whatever came before, no match begins in the bytes ahead between two offsets
 abbrev pub PassesOver : SearchValue → ℕ → ℕ → List ℕ → Type 0
 PassesOver search from to ahead = (before : List ℕ) → length before ≡ from → (i p : ℕ)
     → Occurs search.query.patterns search.ignore_case (before ++ ahead) (rest_from (before ++ ahead) from) i p → to ≤ p
 
--- the bytes that are known to be still to be read
+-- the bytes that are still to be read, if they are known
 abbrev pub known : Option (List ℕ) → List ℕ
 known None = []
 known (Some bytes) = bytes
 
--- a piece of what was unread is read, and none once reading failed
+-- a piece of the unread bytes is read, or nothing once reading has failed
 pub record ReadsPiece (old : StreamValue) (piece : List ℕ) (new : StreamValue) : Type 0 where
   pub consumed : Consumes old.unread new.unread piece
   pub failed : IfSome old.failure (λ kind. (piece ≡ []) × (new.failure ≡ Some kind))
 
--- a match is given, the leftmost one in what was read and what is known to follow: the search goes on behind it
+-- the answer is the leftmost match in the bytes that were read and those known to follow. The search continues at its
+-- end
 pub record GoesBehind (old : StreamValue) (found : MatchValue) (new : StreamValue) : Type 0 where
   pub piece : List ℕ
   pub reads : ReadsPiece old piece new
@@ -100,7 +101,7 @@ pub record GoesBehind (old : StreamValue) (found : MatchValue) (new : StreamValu
     failure = new.failure;
   }
 
--- the search is over: whatever was read came before
+-- the search has ended, past all bytes that were read
 abbrev pub stream_over : StreamValue → List ℕ → StreamValue → StreamValue
 stream_over old piece new = record old {
   held = [];
@@ -110,7 +111,7 @@ stream_over old piece new = record old {
   is_over = true;
 }
 
--- the text ends, no reading failed, and nothing occurs in what was ahead
+-- the text has ended, no reading failed, and nothing occurs in the bytes ahead
 pub record EndsWhole (old new : StreamValue) : Type 0 where
   pub piece : List ℕ
   pub reads : ReadsPiece old piece new
@@ -119,8 +120,8 @@ pub record EndsWhole (old new : StreamValue) : Type 0 where
   pub nothing : IsLeftmostAhead old.search old.offset None (old.held ++ piece)
   pub over : new ≡ stream_over old piece new
 
--- reading failed with the error, and no match is known from what was read: whatever follows, none begins before the
--- last bytes, one less than the longest pattern has
+-- reading failed with the error, and no match is known from the bytes read. Whatever follows, none begins before the
+-- last bytes, one fewer than the longest pattern has
 pub record EndsFailed (old : StreamValue) (error : Error) (new : StreamValue) : Type 0 where
   pub piece : List ℕ
   pub reads : ReadsPiece old piece new
@@ -129,18 +130,18 @@ pub record EndsFailed (old : StreamValue) (error : Error) (new : StreamValue) : 
       (new.offset - (longest_of old.search.query.patterns - 1)) ((old.held ++ piece) ++ more)
   pub over : new ≡ stream_over old piece new
 
--- what `next` gives: the leftmost match of what is ahead, or None where nothing occurs in it, or the error with which
--- reading failed; behind a match it goes on, and else it is over, gives None, and stays as it is
+-- the answer of `next`: the leftmost match in the bytes ahead, None if nothing occurs there, or the error with which
+-- reading failed. After None or an error it has ended, always gives None, and is unchanged
 abbrev pub GivesStreamed : StreamValue → Option (Result MatchValue Error) → StreamValue → Type 0
 GivesStreamed old None new = (old.is_over ≡ true → new ≡ old) × (old.is_over ≡ false → EndsWhole old new)
 GivesStreamed old (Some answer) new = (old.is_over ≡ false) × (old.offset < 2 ^ 64)
     × MatchResult answer (λ found. GoesBehind old found new) (λ error. EndsFailed old error new)
 
--- at most how many answers are to come: each match takes a byte or more, and an error is the last
+-- an upper bound on the answers to come: each match has at least one byte, and an error is the last answer
 abbrev pub most_streamed : StreamValue → Count
 most_streamed m = at_most (if m.is_over then 0 else 2 ^ 64 - m.offset)
 
--- a search that has not begun, in what a reader gives, where that is known
+-- a search that has not begun, in what a reader gives, if that is known
 abbrev pub stream_of : SearchValue → Option (List ℕ) → StreamValue
 stream_of search unread =
     record { search = search; held = []; unread = unread; offset = 0; failure = None; is_over = false }

@@ -1,31 +1,31 @@
--- Rows of numbers, each of which stands for a state of an automaton.
+-- Rows of numbers, one row for each state of an automaton.
 use Rattle.std.specs.Prelude.{◌≡◌, ℕ, ◌+◌, ◌*◌, ◌-◌, ◌<◌, ◌≤◌, ◌^◌, List, [], ◌∷◌, ◌++◌, Option, None, Some}
 use Rattle.std.specs.Prelude.{length, slice_index}
 use Rattle.std.specs.Option.{unwrap_or}
 use Rattle.literal_search.specs.Words.{ending, live_suffix, word_of}
 
--- what stands in a row where no pattern ends with the state's word
+-- the number in a row that says that no pattern ends with the state's word
 abbrev pub nothing : ℕ
 nothing = 2 ^ 32 - 1
 
--- how long a row is: a place for each symbol, and the last for the pattern that ends with the state's word
+-- the length of a row: a number for each symbol, and one for the pattern that ends with the state's word
 abbrev pub stride_of : ℕ → ℕ
 stride_of width = width + 1
 
--- what stands in a row for a state: where that one's row begins, and 2^31 more where a pattern ends with its word
+-- the number for a state: the index at which its row begins, plus 2^31 if a pattern ends with its word
 abbrev pub code_of : ℕ → Option ℕ → ℕ
-code_of place None = place
-code_of place (Some pattern) = place + 2 ^ 31
+code_of row None = row
+code_of row (Some pattern) = row + 2 ^ 31
 
--- the number in a row leads to the state with this word
+-- the number leads to the state with this word
 pub record LeadsTo (patterns words : List (List ℕ)) (width code : ℕ) (word : List ℕ) : Type 0 where
   pub state : ℕ
   pub is_state : state < length words
   pub word_is : word_of words state ≡ word
   pub code_is : code ≡ code_of (state * stride_of width) (ending patterns word)
 
--- the rows are those of states with words, the first of which is empty: from each word each symbol leads to the live
--- suffix of both, and behind these stands the pattern that ends with the word
+-- the rows are those of states with words; the first word is empty. From each word, each symbol leads to the live
+-- suffix of the word and the symbol. The last number of a row is the pattern that ends with the word
 pub record Recognises (patterns : List (List ℕ)) (width : ℕ) (rows : List ℕ) : Type 0 where
   pub words : List (List ℕ)
   pub some : 0 < length words

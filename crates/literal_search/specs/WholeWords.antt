@@ -1,4 +1,4 @@
--- Whole words: occurrences with no word byte right before them, and none right after them.
+-- Whole words: occurrences with no word byte right before them and none right after them.
 use Rattle.std.specs.Prelude.{◌==◌, ◌≡◌, ◌+◌, ◌-◌, ◌*◌, ◌<◌, ◌≤◌, ◌&&◌, ◌||◌, ℕ, Bool, false, List, [], ◌∷◌, length}
 use Rattle.std.specs.Prelude.{IfSome, MatchOption, Option, nat_lt, slice_index}
 use Rattle.std.specs.Char.{is_ascii_alphanumeric}
@@ -10,11 +10,11 @@ use Rattle.literal_base.specs.MatchValue.{MatchValue}
 use Rattle.literal_base.specs.Occurs.{Occurs, between, pattern_at}
 use Rattle.literal_base.specs.Query.{Query}
 use Rattle.literal_base.specs.declared.search.Span.{Span}
-use Rattle.literal_search.specs.MatchesValue.{LooksOn, place_behind, place_further}
+use Rattle.literal_search.specs.MatchesValue.{LooksOn, offset_after_start, offset_at_end}
 use Rattle.literal_search.specs.SearchValue.{SearchValue, longest_of, looked_by}
 use Rattle.literal_search.specs.declared.backward.TheConstants.{LEAST}
 
--- a `WholeWords` as contracts see it: what is searched for, and a test for each byte whether it is a word byte
+-- a `WholeWords` as contracts see it: the search, and for each byte whether it is a word byte
 pub record WholeWordsValue : Type 0 where
   pub search : SearchValue
   pub word_bytes : List Bool
@@ -23,26 +23,27 @@ pub record WholeWordsValue : Type 0 where
 abbrev pub is_ascii_word_byte : ℕ → Bool
 is_ascii_word_byte byte = is_ascii_alphanumeric byte || byte == 95
 
--- whether a word byte is at an offset of a haystack; none is at its end
+-- whether a word byte is at an offset; none is at the end of the haystack
 abbrev pub is_word_at : List Bool → List ℕ → ℕ → Bool
 is_word_at word_bytes haystack at = nat_lt at (length haystack) && contains word_bytes (slice_index haystack at)
 
--- whether a word byte is right before an offset; none is before the haystack
+-- whether a word byte is right before an offset; none is before the start of the haystack
 abbrev pub is_word_before : List Bool → List ℕ → ℕ → Bool
 is_word_before word_bytes haystack at = nat_lt 0 at && is_word_at word_bytes haystack (at - 1)
 
--- no word byte is right before the start of a part of a haystack, and none right after its end
+-- no word byte is right before the start of a part of a haystack, or right after its end
 pub record IsAlone (word_bytes : List Bool) (haystack : List ℕ) (start end : ℕ) : Type 0 where
   pub before : is_word_before word_bytes haystack start ≡ false
   pub after : is_word_at word_bytes haystack end ≡ false
 
--- a pattern occurs at an offset, whole in a span, and as a whole word. Bytes of the haystack outside of the span count
+-- a pattern occurs at an offset, whole in a span, and as a whole word. Bytes next to the span count too
 pub record OccursAlone (patterns : List (List ℕ)) (ignore_case : Bool) (word_bytes : List Bool) (haystack : List ℕ)
     (span : Span) (i at : ℕ) : Type 0 where
   pub occurs : Occurs patterns ignore_case haystack span i at
   pub alone : IsAlone word_bytes haystack at (at + length (pattern_at patterns i))
 
--- the match is a whole word in the span; none begins before it, and none that the tie rule prefers at its start
+-- the match is a whole word in the span. No whole word begins before it, and none that the tie rule prefers begins at
+-- its start
 pub record IsLeftmostAlone (query : Query) (ignore_case : Bool) (word_bytes : List Bool) (haystack : List ℕ)
     (span : Span) (found : MatchValue) : Type 0 where
   pub occurs : OccursAlone query.patterns ignore_case word_bytes haystack span found.pattern found.start
@@ -70,8 +71,8 @@ AreWholeWords words haystack span (found ∷ more) =
     IsLeftmostAlone words.search.query words.search.ignore_case words.word_bytes haystack span found
     × AreWholeWords words haystack (between found.end span.end) more
 
--- a `WholeWordMatches` as contracts see it: what is searched for, where, the place from which it goes on, the place
--- from which it looks for the next pattern, and up to which place it has looked
+-- a `WholeWordMatches` as contracts see it: the words, the haystack, the span, the offset from which it continues, the
+-- offset from which it looks for the next pattern, and the offset up to which it has looked
 pub record WholeWordMatchesValue : Type 0 where
   pub words : WholeWordsValue
   pub haystack : List ℕ
@@ -80,65 +81,63 @@ pub record WholeWordMatchesValue : Type 0 where
   pub from : ℕ
   pub known : ℕ
 
--- what `next` gives: the leftmost whole word of the rest of the span, which is not empty, or None where there is none;
--- it goes on after that
+-- the answer of `next`: the leftmost whole word of the rest of the span, which is not empty, or None if there is none.
+-- It continues after that word
 pub record GivesWholeWord (old : WholeWordMatchesValue) (answer : Option MatchValue) (new : WholeWordMatchesValue)
     : Type 0 where
   pub leftmost : IsFirstAlone old.words old.haystack (between old.at old.span.end) answer
   pub not_empty : IfSome answer (λ found. found.start < found.end)
   pub known : ℕ
   pub goes_on : new ≡ record old {
-    at = place_behind old.span answer;
-    from = place_further old.span answer;
+    at = offset_at_end old.span answer;
+    from = offset_after_start old.span answer;
     known = known;
   }
   pub looks : LooksOn (longest_of old.words.search.query.patterns) old.span old.known new.known new.from
 
--- at most how many whole words are to come: each takes a byte or more of the rest
+-- an upper bound on the whole words to come: each has at least one byte of the rest
 abbrev pub most_words_to_come : WholeWordMatchesValue → Count
 most_words_to_come m = at_most (m.span.end - m.at)
 
--- how many bytes are looked up at most at an offset at which a pattern begins, by the length of the longest one
+-- the most bytes that are looked up at an offset at which a pattern begins, given the length of the longest one
 abbrev pub most_at_start : ℕ → ℕ
 most_at_start longest = (longest + 1) * (longest + 1)
 
--- the same where each of them is searched for anew in the rest of a span
+-- `most_at_start` and three times the bytes of a span, in which each start is searched for anew
 abbrev pub most_anew : ℕ → Span → ℕ
 most_anew longest span = most_at_start longest + 3 * (span.end - span.start)
 
--- what is scanned at most while an iteration gets from one place to another, and looks further. If no pattern is longer
--- than a block, it is at most three times the bytes by which it looks further, and so many for each byte by which it
--- gets on. Otherwise each start is searched for anew
+-- the most bytes that are scanned while an iteration advances, and looks further. If no pattern is longer than a block,
+-- they are three times the bytes by which it looks further, plus `most_at_start` for each byte by which it advances.
+-- Otherwise each start is searched for anew
 pub record ScansWordsAtMost (longest : ℕ) (span : Span) (from upto known further : ℕ) (old new : Counts) : Type 0 where
   pub others : new ≡ record old { scanned = new.scanned }
   pub most : longest ≤ LEAST → new.scanned + 3 * known + from * most_at_start longest
       ≤ old.scanned + 3 * further + upto * most_at_start longest
   pub long : LEAST < longest → new.scanned + from * most_anew longest span ≤ old.scanned + upto * most_anew longest span
 
--- what is scanned: at most so much, and if no pattern is longer than a block, at least the bytes that had not been
--- looked up
+-- the bytes that are scanned: at most those of `ScansWordsAtMost`, and if no pattern is longer than a block, at least
+-- those that were not looked up before
 pub record ScansWordsBy (longest : ℕ) (span : Span) (from upto known further : ℕ) (old new : Counts) : Type 0 where
-  pub others : new ≡ record old { scanned = new.scanned }
-  pub most : longest ≤ LEAST → new.scanned + 3 * known + from * most_at_start longest
-      ≤ old.scanned + 3 * further + upto * most_at_start longest
+  pub at_most : ScansWordsAtMost longest span from upto known further old new
   pub least : longest ≤ LEAST
       → old.scanned + looked_by longest span further ≤ new.scanned + looked_by longest span known
-  pub long : LEAST < longest → new.scanned + from * most_anew longest span ≤ old.scanned + upto * most_anew longest span
 
--- the same for some patterns
+-- `ScansWordsBy` for the longest of some patterns
 abbrev pub ScansWords : List (List ℕ) → Span → ℕ → ℕ → ℕ → ℕ → Counts → Counts → Type 0
 ScansWords patterns = ScansWordsBy (longest_of patterns)
 
--- what the search for the first whole word scans. If no pattern is longer than a block, it is at least each byte up to
--- the start of the word, with that one, and at most three times the span, and so many more for each byte up to there
+-- the bytes that the search for the first whole word scans. If no pattern is longer than a block, they are at least
+-- those up to and including the word's first byte, and at most three times the span, plus `most_at_start` for each of
+-- these bytes
 pub record ScansFirstWordBy (longest : ℕ) (span : Span) (answer : Option MatchValue) (old new : Counts) : Type 0 where
   pub others : new ≡ record old { scanned = new.scanned }
-  pub least : longest ≤ LEAST → old.scanned + place_further span answer ≤ new.scanned + span.start
+  pub least : longest ≤ LEAST → old.scanned + offset_after_start span answer ≤ new.scanned + span.start
   pub most : longest ≤ LEAST → new.scanned + span.start * most_at_start longest
-      ≤ old.scanned + 3 * (span.end - span.start) + place_further span answer * most_at_start longest
+      ≤ old.scanned + 3 * (span.end - span.start) + offset_after_start span answer * most_at_start longest
   pub long : LEAST < longest → new.scanned + span.start * most_anew longest span
-      ≤ old.scanned + place_further span answer * most_anew longest span
+      ≤ old.scanned + offset_after_start span answer * most_anew longest span
 
--- the same for some patterns
+-- `ScansFirstWordBy` for the longest of some patterns
 abbrev pub ScansFirstWord : List (List ℕ) → Span → Option MatchValue → Counts → Counts → Type 0
 ScansFirstWord patterns = ScansFirstWordBy (longest_of patterns)

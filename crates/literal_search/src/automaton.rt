@@ -1,4 +1,4 @@
-//! The automaton of a search for every occurrence, for loops of callers.
+//! The automaton of a search for every occurrence, for a caller's own loops.
 ghost use Rattle.std.specs.Prelude.{◌≡◌, ◌⊎◌, ◌↔◌, ◌+◌, ◌-◌, ◌<◌, ◌≤◌, ◌^◌, ◌++◌, ◌∷◌, [], ℕ, List, IsTrue};
 ghost use Rattle.std.specs.Prelude.{length, slice_index, slice_range};
 ghost use Rattle.literal_base.specs.Occurs.{whole_of};
@@ -13,12 +13,12 @@ use crate::prepared_overlapping::LentTables;
 use crate::walk::{ENDS, Table};
 use std::marker::Model;
 
-/// The automaton of an [`Overlapping`](crate::Overlapping), which it borrows, for loops of a caller's own. Contracts
-/// see its tables.
+/// The automaton of an [`Overlapping`](crate::Overlapping), which it borrows, for a caller's own loops. Contracts see
+/// its tables.
 ///
 /// After a text it is in the state of the longest suffix of the text that is a prefix of a pattern (`IsStateAfter`). A
-/// caller's loop begins with [`Automaton::start_state`], and appends a byte to the text by [`Automaton::next_state`].
-/// If two texts lead to equal states, the same patterns are suffixes of both, also after the same further bytes.
+/// loop begins with [`Automaton::start_state`], and appends a byte to the text with [`Automaton::next_state`]. If two
+/// texts lead to equal states, the same patterns are suffixes of both, also after the same further bytes.
 ///
 /// ```rust
 /// let search = Overlapping::new(alloc, false, [b"append".as_slice(), b"app", b"end"])?;
@@ -47,7 +47,7 @@ impl<'s> Model for Automaton<'s> {
     ghost invariant = { λ a. AreLent a.lent × AreFor (overlapping_of a.parts.now) a.lent };
 }
 
-/// A state of an [`Automaton`]. In a state of another automaton each call is safe, and its answer says nothing.
+/// A state of an [`Automaton`]. With a state of another automaton each call is safe, but its answer has no meaning.
 /// Contracts see a state as a number.
 #[derive(Clone, Copy, Debug, PartialEq, Eq, Hash, Drop)]
 pub struct State {
@@ -64,7 +64,7 @@ impl Model for State {
     ghost inverse = { λ n. record { number = n } };
 }
 
-/// The automaton of the parts of a search.
+/// The automaton of a search.
 pub(crate) fn automaton_of(parts: &Parts) -> Automaton<'_>
     requires { AreParts parts.now }
     ensures { overlapping_value result ≡ overlapping_of parts.now }
@@ -76,28 +76,29 @@ pub(crate) fn automaton_of(parts: &Parts) -> Automaton<'_>
 }
 
 impl<'s> Automaton<'s> {
-    /// The state after the empty text.
+    /// Returns the state after the empty text.
     pub fn start_state(&self) -> State
         ensures { IsStateAfter self.now [] result }
     {
         State { number: 0 }
     }
 
-    /// The state after one more byte of the text.
+    /// Returns the state after one more byte of the text.
     #[inline(always)]
     pub fn next_state(&self, state: State, byte: u8) -> State
         ensures { (text : List ℕ) → IsStateAfter self.now text state
             → IsStateAfter self.now (text ++ byte ∷ []) result }
     {
-        let (table, place) = (self.table(), state.place());
-        if place + CLASSES_LEN > table.rows.len() {
+        let (table, row) = (self.table(), state.row());
+        // (never for a state of this automaton; one of another may have a row that is not here)
+        if row + CLASSES_LEN > table.rows.len() {
             return self.start_state();
         }
-        let number = table.code_for(place, byte);
+        let number = table.code_for(row, byte);
         State { number }
     }
 
-    /// Whether any pattern is a suffix of the text: the state itself tells it, without a look-up.
+    /// Returns whether any pattern is a suffix of the text. The state itself says so, without a look-up.
     #[inline(always)]
     pub fn is_match(&self, state: State) -> bool
         ensures { (text : List ℕ) → IsStateAfter self.now text state
@@ -107,7 +108,7 @@ impl<'s> Automaton<'s> {
         state.number >= ENDS
     }
 
-    /// The numbers of all patterns that are a suffix of the text, ascending.
+    /// Returns the numbers of all patterns that are suffixes of the text, in ascending order.
     pub fn matches(&self, state: State) -> &[u32]
         ensures { (text : List ℕ) → IsStateAfter self.now text state
             → AreAtEnd self.now.patterns self.now.ignore_case text (whole_of text) result.now }
@@ -116,13 +117,13 @@ impl<'s> Automaton<'s> {
         if state.number < ENDS {
             return &[];
         }
-        match table.ending_at(state.place()) {
+        match table.ending_at(state.row()) {
             Ok(longest) => self.list_of(longest as usize),
             Err(_) => &[],
         }
     }
 
-    /// The list of a pattern: the patterns that are a suffix of it.
+    /// The numbers of all patterns that are suffixes of a pattern.
     fn list_of(&self, pattern: usize) -> &[u32]
         ensures { pattern < length self.now.patterns
             → result.now ≡ slice_range self.now.ends (slice_index self.now.starts pattern)
@@ -137,7 +138,7 @@ impl<'s> Automaton<'s> {
         &self.lent.ends[start..end]
     }
 
-    /// What a step reads.
+    /// The table that a step reads.
     #[inline(always)]
     fn table(&self) -> Table<'_>
         ensures tables { AreTables self.now }
@@ -151,9 +152,9 @@ impl<'s> Automaton<'s> {
 }
 
 impl State {
-    /// Where the row of the state begins.
+    /// The index at which the row of the state begins.
     #[inline(always)]
-    fn place(self) -> usize
+    fn row(self) -> usize
         ensures { ((self < 2 ^ 31) × (result ≡ self)) ⊎ ((2 ^ 31 ≤ self) × (result ≡ self - 2 ^ 31)) }
     {
         let number = self.number;

@@ -1,5 +1,5 @@
-//! Walks through a span from its end, by an automaton of the reversed patterns. The numbers may be lent, and so any:
-//! they are damaged where one leads out of the rows.
+//! Backward walks through a span, by an automaton of the reversed patterns. Lent numbers may be wrong: if one points
+//! outside the rows, the answer is `Damaged`.
 ghost use Rattle.std.specs.Prelude.{◌≡◌, ◌+◌, ◌-◌, ◌*◌, ◌<◌, ◌≤◌, ◌^◌, ◌%◌, length, max, min};
 ghost use Rattle.std.specs.Prelude.{ℕ, IfOk, IfSome, List, MatchOption, None, false, slice_index};
 ghost use Rattle.std.specs.Result.{IsOkAnd};
@@ -9,10 +9,10 @@ ghost use Rattle.literal_base.specs.declared.search.Span.{Span};
 ghost use Rattle.literal_search.specs.SearchValue.{ScansNext, ScansThrice, looked_by};
 ghost use Rattle.literal_search.specs.Inside.Backward.{AreMarked, AreMarks, ForBackward, IsAhead, IsBlock};
 ghost use Rattle.literal_search.specs.Inside.Backward.{HasLookedAhead, IsBlockMarked};
-ghost use Rattle.literal_search.specs.Inside.Backward.{IsMark, IsMatchBy, IsPlaced, IsSafe, NoneFrom, place_by};
-ghost use Rattle.literal_search.specs.Inside.Leftmost.{AreLanes, AreMarksBehind, AreSteps, HasBytes, HaveRows};
+ghost use Rattle.literal_search.specs.Inside.Backward.{IsMark, IsMatchBy, IsPlaced, IsSafe, NoneFrom, offset_by};
+ghost use Rattle.literal_search.specs.Inside.Leftmost.{AreLanes, AreMarksAfter, AreSteps, HasBytes, HaveRows};
 ghost use Rattle.literal_search.specs.Inside.Leftmost.{IsLimit, IsPart};
-ghost use Rattle.literal_search.specs.declared.backward.GoesOn.{GoesOn};
+ghost use Rattle.literal_search.specs.declared.backward.Continuation.{Continuation};
 ghost use Rattle.literal_search.specs.declared.backward.TheConstants.{MARKED};
 
 use crate::leftmost::{Block, Lanes, OVERLAP, Passed};
@@ -22,39 +22,39 @@ use literal_base::count::Tally;
 use literal_base::{Match, Span};
 use std::simd::prelude::*;
 
-/// How long a block is at least, if the span is.
+/// The least length of a block, unless the span is shorter.
 pub(crate) const LEAST: usize = 1024;
 
 /// The largest length of the four parts of a marked block. Parts double up to it while blocks follow one another.
 pub(crate) const MARKED: usize = LEAST / 4;
 
-/// The length from which parts begin to double, where the block before is far. At the end of a span they are shorter.
+/// The first length of a part after a gap between blocks; it doubles from there. At a span's end parts are shorter.
 const FIRST_MARKED: usize = 16;
 
-/// In a list, one walk looks at a candidate alone if a scan passed over at least this many bytes and half the length of
-/// the longest pattern before it, and not fewer bytes than that length.
+/// In a list, one walk looks at a candidate alone if the scan passed over enough bytes before it: this many plus half
+/// the length of the longest pattern, and at least that length.
 const FAR: usize = 18;
 
-/// How long each of the four parts of a marked block is at least.
+/// The least length of the four parts of a marked block.
 const LEAST_MARKED: usize = 6;
 
 /// How many marks are read at once.
 const LANES: usize = 16;
 
-/// What a search from the right reads.
+/// The parts of a search that a backward walk reads.
 #[derive(Clone, Copy)]
 pub struct Backward<'t> {
-    /// The numbers of an automaton for all that occurs of the reversed patterns.
+    /// The numbers of the automaton of the reversed patterns.
     pub table: Table<'t>,
-    /// How long each pattern is.
+    /// The length of each pattern.
     pub lens: &'t [u32],
-    /// The numbers of the scan for candidates by which a search passes over places, if there is one.
+    /// The numbers of the scan for candidates, if there is one.
     pub prints: &'t [u32],
 }
 
-/// A place at which a pattern begins, and the number with which a walk came there.
+/// An offset at which a pattern begins, and the number that a walk read there.
 #[derive(Clone, Copy)]
-pub struct Begun {
+pub struct PatternStart {
     pub at: usize,
     pub code: u32,
 }
@@ -66,19 +66,19 @@ pub struct Marks {
     pub first: usize,
     pub upto: usize,
     pub known: usize,
-    /// The length of each of the four parts of the block, and 0 where that is no such block.
+    /// The length of each of the four parts of the block, or 0 if it was not marked in four parts.
     pub part: usize,
 }
 
-/// Where a list goes on after a match: at its end, or one byte after its start, so that matches may overlap.
+/// Where a list continues after a match: at its end, or one byte after its start, so that matches may overlap.
 #[derive(Clone, Copy)]
-pub enum GoesOn {
+pub enum Continuation {
     AtEnd,
     AfterStart,
 }
 
 impl<'t> Backward<'t> {
-    /// The block that begins at a place: as long as the longest pattern or longer, if as much is left.
+    /// The block that begins at an offset: at least as long as the longest pattern, unless less of the span is left.
     fn block_at(&self, span: Span, at: usize) -> Span
         requires after { span.start ≤ at }
         requires inside { at < span.end }
@@ -93,8 +93,7 @@ impl<'t> Backward<'t> {
         }
     }
 
-    /// The leftmost match of the rest of a span, from a place on. The numbers hold marks, and there is room for those
-    /// of a block.
+    /// The leftmost match of the rest of a span, from an offset on. The numbers hold marks, with room for a block.
     pub fn next_match(
         &self,
         haystack: &[u8],
@@ -112,11 +111,11 @@ impl<'t> Backward<'t> {
             → IsOkAnd result (IsLeftmost tables.search.query tables.search.ignore_case haystack.now
             (between at span.end))) }
         ensures marked { ForBackward self.now (λ tables. AreMarked tables haystack.now span at numbers.old marks.old
-            → (on : GoesOn) → IfOk result (λ answer. AreMarked tables haystack.now span (place_by on span answer)
+            → (on : Continuation) → IfOk result (λ answer. AreMarked tables haystack.now span (offset_by on span answer)
             numbers.new marks.new)) }
         ensures lies { IfOk result (λ answer. IfSome answer (IsMatchBy self.now span at)) }
-        ensures placed { (on : GoesOn) → IfOk result
-            (λ answer. IsPlaced self.now.table.longest span (place_by on span answer) marks.new) }
+        ensures placed { (on : Continuation) → IfOk result
+            (λ answer. IsPlaced self.now.table.longest span (offset_by on span answer) marks.new) }
         ensures further { (marks.old.known ≤ marks.new.known) × (marks.new.known ≤ span.end) }
         ensures bounded { ScansThrice (between marks.old.known marks.new.known) tally.old tally.new }
         ensures least { IfOk result (λ _. tally.old.scanned + looked_by self.now.table.longest span marks.new.known
@@ -135,14 +134,14 @@ impl<'t> Backward<'t> {
         Ok(None)
     }
 
-    /// The same for an iteration, whose numbers are enough for a block. If a pattern is longer than that, the rest is
-    /// searched anew.
+    /// The same for an iteration, whose numbers have room for one block. For a longer pattern, the rest is searched
+    /// anew.
     pub fn next_in(
         &self,
         haystack: &[u8],
         span: Span,
         at: usize,
-        on: GoesOn,
+        on: Continuation,
         numbers: &mut [u32; LEAST],
         marks: &mut Marks,
         tally: &mut Tally,
@@ -156,13 +155,13 @@ impl<'t> Backward<'t> {
             (between at span.end))) }
         ensures marked { ForBackward self.now (λ tables. self.now.table.longest ≤ LEAST
             → AreMarked tables haystack.now span at numbers.old marks.old
-            → IfOk result (λ answer. AreMarked tables haystack.now span (place_by on span answer) numbers.new
+            → IfOk result (λ answer. AreMarked tables haystack.now span (offset_by on span answer) numbers.new
             marks.new)) }
         ensures lies { IfOk result (λ answer. IfSome answer (IsMatchBy self.now span at)) }
-        ensures ahead { IfOk result (λ answer. IsAhead self.now.table.longest span (place_by on span answer)
+        ensures ahead { IfOk result (λ answer. IsAhead self.now.table.longest span (offset_by on span answer)
             marks.new) }
         ensures further { IfOk result (λ _. (marks.old.known ≤ marks.new.known) × (marks.new.known ≤ span.end)) }
-        ensures looked { IfOk result (λ answer. place_by on span answer
+        ensures looked { IfOk result (λ answer. offset_by on span answer
             ≤ looked_by self.now.table.longest span marks.new.known) }
         ensures others { tally.new ≡ record tally.old { scanned = tally.new.scanned } }
         ensures most { tally.new.scanned ≤ tally.old.scanned + 3 * (span.end - marks.old.known) }
@@ -181,12 +180,12 @@ impl<'t> Backward<'t> {
             end: span.end,
         };
         let answer = self.find_in(haystack, rest, tally)?;
-        *marks = no_marks(place_after(on, span, &answer));
+        *marks = no_marks(offset_after(on, span, &answer));
         Ok(answer)
     }
 
-    /// Looks further ahead from a place, unless it is known what begins there, and answers a place before which nothing
-    /// begins.
+    /// Marks further offsets from one on, unless it is known what begins there. No pattern begins before the returned
+    /// offset.
     #[inline(always)]
     fn mark_from(
         &self,
@@ -211,9 +210,9 @@ impl<'t> Backward<'t> {
         self.mark_ahead(haystack, span, from, numbers, marks, tally)
     }
 
-    /// The same where it isn't known. A scan for candidates passes over bytes. Where it stops, the place alone is
-    /// marked, if it passed over enough; else a block. It is called, and not put in its place, so that the next match
-    /// in a marked block costs little.
+    /// The same if it is not known. A scan for candidates passes over bytes. At a candidate it marks this offset alone
+    /// if the scan passed over enough, otherwise a block. It is not inlined, so that a match in a marked block costs
+    /// little.
     #[tactic(auto, using(crate::proofs::lemmas::Leftmost::ahead_few))]
     #[inline(never)]
     fn mark_ahead(
@@ -247,15 +246,15 @@ impl<'t> Backward<'t> {
         }
         let longest = self.table.longest;
         *marks = if at - from >= longest.max(longest / 2 + FAR) {
-            self.mark_place(haystack, span, at, numbers, tally)?
+            self.mark_offset(haystack, span, at, numbers, tally)?
         } else {
             self.mark_block(haystack, span, at, part, numbers, tally)?
         };
         Ok(at)
     }
 
-    /// Marks one place, if a pattern begins there.
-    fn mark_place(
+    /// Marks one offset, if a pattern begins there.
+    fn mark_offset(
         &self,
         haystack: &[u8],
         span: Span,
@@ -295,8 +294,7 @@ impl<'t> Backward<'t> {
         })
     }
 
-    /// Marks the block that begins at a place, by four walks through parts of at most this length, if they can be long
-    /// enough.
+    /// Marks the block that begins at an offset, by four walks through parts of at most this length, if possible.
     fn mark_block(
         &self,
         haystack: &[u8],
@@ -337,7 +335,7 @@ impl<'t> Backward<'t> {
         })
     }
 
-    /// Marks each place of a block, by one walk.
+    /// Marks each offset of a block, by one walk.
     fn mark_alone(
         &self,
         classes: &[u8; 256],
@@ -362,17 +360,16 @@ impl<'t> Backward<'t> {
         ensures all { IfOk result (λ _. tally.new.scanned + block.start
             ≡ tally.old.scanned + min (block.end + (self.now.table.longest - 1)) span.end) }
     {
-        let mut place = self.walk_back(classes, haystack, span, block.end, limit, tally)?;
+        let mut row = self.walk_back(classes, haystack, span, block.end, limit, tally)?;
         for at in (block.start..block.end).rev() {
-            let code = self.step(classes, place, haystack, at, limit, tally)?;
+            let code = self.step(classes, row, haystack, at, limit, tally)?;
             numbers[at - block.start] = code;
-            place = (code % ENDS) as usize;
+            row = (code % ENDS) as usize; // (without the bit that says that a pattern begins)
         }
         Ok(())
     }
 
-    /// Marks the last places that four walks read, one of each of four neighbouring parts, and answers at which rows
-    /// the walks stand then.
+    /// Marks the offsets that four walks read last, one in each of four adjacent parts. Returns the rows of the walks.
     #[inline(always)]
     fn mark_last(
         &self,
@@ -392,8 +389,8 @@ impl<'t> Backward<'t> {
             → IsOkAnd result (AreLanes tables haystack span at part (passed.left - 1))) }
         ensures marks { ForBackward self.now (λ tables. (haystack : List ℕ) (span : Span) (at : ℕ)
             → AreSteps tables haystack span at part (passed.left - 1) passed.codes
-            → AreMarksBehind tables haystack span.end marks.old at part passed.left
-            → AreMarksBehind tables haystack span.end marks.new at part (passed.left - 1)) }
+            → AreMarksAfter tables haystack span.end marks.old at part passed.left
+            → AreMarksAfter tables haystack span.end marks.new at part (passed.left - 1)) }
         ensures long { length marks.new ≡ length marks.old }
     {
         let last = passed.left - 1;
@@ -415,8 +412,8 @@ impl<'t> Backward<'t> {
         Ok(lanes)
     }
 
-    /// Marks each place of four neighbouring parts that is left, by four walks at once. The others are marked. For the
-    /// length that most parts have there is a loop of its own.
+    /// Marks the remaining offsets of four adjacent parts, by four walks at once. The most frequent part length has a
+    /// loop of its own.
     #[inline(never)]
     fn mark_in_four(
         &self,
@@ -440,7 +437,7 @@ impl<'t> Backward<'t> {
         requires left { left ≤ part }
         requires room { 4 * part ≤ length marks.old }
         ensures marks { ForBackward self.now (λ tables. AreLanes tables haystack.now span at part left lanes
-            → AreMarksBehind tables haystack.now span.end marks.old at part left
+            → AreMarksAfter tables haystack.now span.end marks.old at part left
             → IsOkAnd result (λ _. AreMarks tables haystack.now span.end marks.new at at (at + 4 * part))) }
         ensures others { tally.new ≡ record tally.old { scanned = tally.new.scanned } }
         ensures most { tally.new.scanned ≤ tally.old.scanned + 4 * left }
@@ -456,7 +453,7 @@ impl<'t> Backward<'t> {
         )
     }
 
-    /// [`Backward::mark_in_four`], by one loop.
+    /// Does the work of [`Backward::mark_in_four`] in one loop.
     #[inline(always)]
     fn mark_parts(
         &self,
@@ -480,14 +477,14 @@ impl<'t> Backward<'t> {
         requires left { left ≤ part }
         requires room { 4 * part ≤ length marks.old }
         ensures marks { ForBackward self.now (λ tables. AreLanes tables haystack.now span at part left lanes
-            → AreMarksBehind tables haystack.now span.end marks.old at part left
+            → AreMarksAfter tables haystack.now span.end marks.old at part left
             → IsOkAnd result (λ _. AreMarks tables haystack.now span.end marks.new at at (at + 4 * part))) }
         ensures others { tally.new ≡ record tally.old { scanned = tally.new.scanned } }
         ensures most { tally.new.scanned ≤ tally.old.scanned + 4 * left }
         ensures all { IfOk result (λ _. tally.new.scanned ≡ tally.old.scanned + 4 * left) }
     {
         let mut now = lanes;
-        let table = self.table; // (a copy: what is written to the marks does not change it)
+        let table = self.table; // (a copy, which writes to the marks do not change)
         for step in (0..left).rev() {
             let here = at + step;
             let (two, three, four) = (here + part, here + 2 * part, here + 3 * part);
@@ -512,7 +509,7 @@ impl<'t> Backward<'t> {
         Ok(())
     }
 
-    /// Marks the block of four parts that begins at a place, unless nothing begins in it.
+    /// Marks the block of four parts that begins at an offset, unless no pattern begins in it.
     fn mark_four_parts(
         &self,
         haystack: &[u8],
@@ -567,8 +564,8 @@ impl<'t> Backward<'t> {
         })
     }
 
-    /// How long each of the four parts of the next block may be: twice as long as those of the block before, or, where
-    /// at least as many bytes were passed over as that has, as short as they can be.
+    /// The largest length of each part of the next block: twice the length in the previous block, or the least one if
+    /// at least as many bytes were passed over as that block has.
     fn part_after(&self, before: usize, passed: usize) -> usize
         ensures { result ≤ MARKED }
     {
@@ -580,8 +577,8 @@ impl<'t> Backward<'t> {
         part.max(self.table.longest.saturating_add(4)).min(MARKED)
     }
 
-    /// The length of four parts that are marked at once, at most `most`, where `left` bytes are left; and none if a
-    /// part would be shorter than the least one, or than the longest pattern and four bytes.
+    /// The length of four parts that are marked at once, at most `most`, if `left` bytes are left. There is none if a
+    /// part would be shorter than the least length, or than the longest pattern plus four bytes.
     pub(crate) fn part_for_marks(&self, left: usize, most: usize) -> Option<usize>
         requires { most ≤ MARKED }
         ensures inside { IfSome result (λ part. 4 * part + self.now.table.longest ≤ left) }
@@ -595,7 +592,7 @@ impl<'t> Backward<'t> {
         Some(part)
     }
 
-    /// The match that begins at the first marked place, from one on, at which a pattern begins.
+    /// The match at the first offset, from one on, whose mark says that a pattern begins.
     fn next_marked(
         &self,
         haystack: &[u8],
@@ -625,7 +622,7 @@ impl<'t> Backward<'t> {
         Ok(None)
     }
 
-    /// The match that begins at a place with a mark.
+    /// The match that begins at a marked offset.
     pub(crate) fn match_at(
         &self,
         haystack: &[u8],
@@ -654,7 +651,7 @@ impl<'t> Backward<'t> {
     }
 }
 
-/// So many first marks say that nothing begins.
+/// Sets the first marks to say that no pattern begins.
 fn clear(marks: &mut [u32], upto: usize)
     requires inside { upto ≤ length marks.old }
     ensures long { length marks.new ≡ length marks.old }
@@ -663,7 +660,7 @@ fn clear(marks: &mut [u32], upto: usize)
     marks[..upto].fill(0);
 }
 
-/// A place up to which, from another on, no mark says that a pattern begins: so many marks are read at once.
+/// Skips offsets whose marks say that no pattern begins. Returns the offset that it reached.
 #[inline(always)]
 fn pass_unmarked(numbers: &[u32], first: usize, from: usize, upto: usize) -> usize
     requires ordered { from ≤ upto }
@@ -682,7 +679,7 @@ fn pass_unmarked(numbers: &[u32], first: usize, from: usize, upto: usize) -> usi
     at
 }
 
-/// Whether one of 16 marks, from one on, says that a pattern begins.
+/// Whether one of 16 marks, from an index on, says that a pattern begins.
 #[inline(always)]
 fn has_begun(numbers: &[u32], at: usize) -> bool
     requires { at + 16 ≤ length numbers.now }
@@ -691,7 +688,7 @@ fn has_begun(numbers: &[u32], at: usize) -> bool
     u32x16::from_slice(&numbers[at..]).reduce_or() >= ENDS
 }
 
-/// How many of 16 marks, from one on, come before the first that says that a pattern begins.
+/// How many of 16 marks, from an index on, come before the first that says that a pattern begins.
 #[inline(always)]
 fn unmarked_from(numbers: &[u32], at: usize) -> usize
     requires { at + 16 ≤ length numbers.now }
@@ -707,7 +704,7 @@ fn unmarked_from(numbers: &[u32], at: usize) -> usize
     }
 }
 
-/// No marks, where nothing is known from a place on.
+/// No marks: nothing is known from an offset on.
 pub fn no_marks(at: usize) -> Marks
     ensures { result ≡ record { first = at; upto = at; known = at; part = 0 } }
 {
@@ -719,14 +716,14 @@ pub fn no_marks(at: usize) -> Marks
     }
 }
 
-/// Where a list goes on after an answer.
-pub fn place_after(on: GoesOn, span: Span, answer: &Option<Match>) -> usize
+/// The offset from which a list continues after an answer.
+pub fn offset_after(on: Continuation, span: Span, answer: &Option<Match>) -> usize
     requires { IfSome answer.now (λ found. (found.start < found.end) × (found.end ≤ span.end)) }
-    ensures { result ≡ place_by on span answer.now }
+    ensures { result ≡ offset_by on span answer.now }
 {
     match (on, answer) {
         (_, None) => span.end,
-        (GoesOn::AtEnd, Some(found)) => found.end(),
-        (GoesOn::AfterStart, Some(found)) => found.start() + 1,
+        (Continuation::AtEnd, Some(found)) => found.end(),
+        (Continuation::AfterStart, Some(found)) => found.start() + 1,
     }
 }

@@ -1,4 +1,4 @@
-//! What a search is built by, each of it set by its name.
+//! A builder of searches, with a setter for each choice.
 ghost use Rattle.std.specs.Prelude.{◌≡◌, IfErr, IfOk};
 ghost use Rattle.literal_base.specs.Given.{CanBeTaken};
 ghost use Rattle.literal_search.specs.Overlapping.{BuildsOverlapping};
@@ -10,8 +10,8 @@ use crate::{BuildError, MatchKind, Overlapping, Search};
 use std::alloc::Global;
 use std::marker::Model;
 
-/// By what a [`Search`] is built: which match is taken, and whether ASCII case is ignored. Each call that sets one
-/// answers a builder that has it, and else what this one has.
+/// Builds a [`Search`] with a match kind, and with ASCII case ignored or kept. Each setter returns a builder with one
+/// new setting, and the other unchanged.
 ///
 /// ```rust
 /// let builder = Search::builder().ascii_case_insensitive(true);
@@ -34,7 +34,7 @@ impl Model for SearchBuilder {
     ghost inverse = { λ value. record { kind = value.kind; ignore_case = value.ignore_case } };
 }
 
-/// What [`Search::builder`] answers.
+/// The builder of [`Search::builder`].
 impl Default for SearchBuilder {
     ghost is_default = { λ builder. builder ≡ default_builder };
 
@@ -44,7 +44,7 @@ impl Default for SearchBuilder {
 }
 
 impl Search {
-    /// What a search is built by where nothing is set: [`MatchKind::LeftmostFirst`], with ASCII case kept.
+    /// Returns the default builder: [`MatchKind::LeftmostFirst`], with ASCII case kept.
     pub fn builder() -> SearchBuilder
         ensures { result ≡ default_builder }
     {
@@ -56,14 +56,14 @@ impl Search {
 }
 
 impl SearchBuilder {
-    /// The same with another kind of match: which of the patterns that match at one place is taken.
+    /// Sets the match kind, which decides between patterns that match at the same offset.
     pub fn match_kind(self, kind: MatchKind) -> SearchBuilder
         ensures { result ≡ record self { kind = kind } }
     {
         SearchBuilder { kind, ..self }
     }
 
-    /// The same with ASCII case ignored, or kept.
+    /// Sets whether ASCII case is ignored.
     pub fn ascii_case_insensitive(self, yes: bool) -> SearchBuilder
         ensures { result ≡ record self { ignore_case = yes } }
     {
@@ -73,7 +73,7 @@ impl SearchBuilder {
         }
     }
 
-    /// The search for the patterns that the iterator gives, by what is set: [`Search::new`] by these.
+    /// Builds the search for the patterns that an iterator gives, as [`Search::new`] does with these settings.
     pub fn build<'a, I: IntoIterator<Item = &'a [u8]>>(
         &self,
         alloc: Global,
@@ -90,8 +90,8 @@ impl SearchBuilder {
         Search::new(alloc, self.kind, self.ignore_case, patterns)
     }
 
-    /// The search for every occurrence of the patterns that the iterator gives: [`Overlapping::new`] by what is set.
-    /// The kind of match makes no difference to it.
+    /// Builds the search for every occurrence of the patterns that an iterator gives, as [`Overlapping::new`] does with
+    /// this setting of the case. The match kind makes no difference.
     pub fn build_overlapping<'a, I: IntoIterator<Item = &'a [u8]>>(
         &self,
         alloc: Global,

@@ -1,25 +1,25 @@
-//! Classes of bytes: numbers that tell the bytes of the patterns from each other and from all others.
+//! Byte classes: numbers that distinguish the bytes of the patterns from each other and from all other bytes.
 ghost use Rattle.std.specs.Prelude.{◌≡◌, ◌+◌, ◌<◌, ℕ, true, false, length, map, slice_index, slice_index_or};
 ghost use Rattle.std.specs.Prelude.{◌⊎◌, count_by, min};
 ghost use Rattle.literal_search.specs.SearchValue.{width_for};
 ghost use Rattle.literal_search.specs.Inside.Classes.{AreClasses, AreNumbers, IsFoldOfOne, LeavesLast, Marks, Tells};
 ghost use Rattle.literal_search.specs.Inside.Classes.{TellsMarked, folded};
 
-/// How many numbers stand behind the rows of an automaton: from the place of a row on there is one for any class.
+/// How many numbers follow the rows of an automaton, so that any class can be looked up in any row.
 pub const CLASSES_LEN: usize = 256;
 
-/// How many of them hold the class of each byte, four in a number, the first in its lowest eight bits. Zeros follow.
+/// How many of them hold the class of each byte, four in a number, the first in the lowest eight bits. Zeros follow.
 pub const PACKED_LEN: usize = CLASSES_LEN / 4;
 
-/// The class of each byte, and how many classes there are: 1 to 256.
+/// The class of each byte, and the number of classes, 1 to 256.
 #[derive(Clone, Copy)]
 pub struct Classes {
     pub table: [u8; 256],
     pub width: usize,
 }
 
-/// Classes that tell the bytes of these patterns from all others. Where case is ignored, both letters
-/// of a case have one class.
+/// The classes for some patterns: they distinguish the bytes of the patterns. If case is ignored, both cases of a
+/// letter share a class.
 pub fn classes_for(ignore_case: bool, patterns: &[Vec<u8>]) -> Classes
     ensures classes { AreClasses result.table result.width }
     ensures tells { Tells ignore_case result.table (map (λ pattern. pattern.items) patterns.now) }
@@ -46,7 +46,7 @@ fn mark(seen: &mut [bool], ignore_case: bool, pattern: &[u8])
     }
 }
 
-/// The byte; where case is ignored, the small letter of one of A to Z.
+/// The byte itself, or, if case is ignored, the lowercase letter for one of A to Z.
 fn fold(ignore_case: bool, byte: u8) -> u8
     ensures { result ≡ folded ignore_case byte }
 {
@@ -57,7 +57,7 @@ fn fold(ignore_case: bool, byte: u8) -> u8
     }
 }
 
-/// A number for each marked byte, from 0 up, and the next one.
+/// Numbers the marked bytes from 0 up, and returns the next number too.
 fn numbers(seen: &[bool]) -> Classes
     requires { length seen.now ≡ 256 }
     ensures numbers { AreNumbers seen.now result.table 256 result.width }
@@ -74,7 +74,7 @@ fn numbers(seen: &[bool]) -> Classes
     Classes { table, width: next }
 }
 
-/// The number of each byte once it is folded, and the next one for all that are not marked.
+/// The class of each byte: the number of the folded byte, or the next number if it is not marked.
 fn folded_table(ignore_case: bool, seen: &[bool], numbers: &Classes) -> Classes
     requires marked { length seen.now ≡ 256 }
     requires numbered { AreNumbers seen.now numbers.now.table 256 numbers.now.width }

@@ -1,21 +1,21 @@
-//! From one end of patterns to the next by the numbers of an automaton: by one walk, and where that is back in the
-//! first state, by passing over bytes with which nothing begins.
+//! Finds the next offset at which a pattern ends, by one walk. When the walk is back in the start state, the search
+//! passes over bytes where no pattern begins.
 ghost use Rattle.std.specs.Prelude.{◌≡◌, ◌+◌, ◌-◌, ◌*◌, ◌<◌, ◌≤◌, ◌^◌, IfOk, IfSome, MatchOption, length};
 ghost use Rattle.literal_base.specs.Occurs.{IsValidSpan};
 ghost use Rattle.literal_search.specs.Prepared.{scan_by, past_skipped};
-ghost use Rattle.literal_search.specs.Inside.NextEnd.{FindsNext, StepsToStop};
+ghost use Rattle.literal_search.specs.Inside.NextEnd.{FindsNext, StepsToWalkEnd};
 
 use crate::prepared::{Damaged, SCAN_LEN, scan_in};
 use crate::scan::farther;
-use crate::walk::{Reached, Stop, Table};
+use crate::walk::{Reached, Table, WalkEnd};
 use literal_base::Span;
 use literal_base::count::Tally;
 use literal_fingerprints::CandidateScan;
 
 impl<'t> Table<'t> {
-    /// The first place in a span behind which a pattern ends, and the row there. The walk stands at a row as it begins
-    /// to read the span. Bytes are passed over by the scan of these numbers, if there is one. What is read in
-    /// vain is no more than twice what the walk before it read.
+    /// The first offset in a span after its start at which a pattern ends, and the row there. The walk begins to read
+    /// the span in the row at index `from`. If there is a scan for candidates, bytes are passed over by it. A pass
+    /// reads at most twice as many bytes in vain as the walk before it read.
     #[inline(always)]
     pub fn next_end(
         &self,
@@ -24,17 +24,17 @@ impl<'t> Table<'t> {
         from: usize,
         span: Span,
         tally: &mut Tally,
-    ) -> Result<Option<Stop>, Damaged>
+    ) -> Result<Option<WalkEnd>, Damaged>
         requires classes { length self.now.classes.now ≡ 64 }
         requires prints { length prints.now ≡ SCAN_LEN }
         requires valid { IsValidSpan haystack.now span }
         ensures next { FindsNext self.now prints.now haystack.now from span result }
         ensures inside { IfOk result (λ answer. IfSome answer
-            (λ stop. (span.start < stop.end) × (stop.end ≤ span.end) × (stop.place < 2 ^ 32))) }
+            (λ stop. (span.start < stop.end) × (stop.end ≤ span.end) × (stop.row < 2 ^ 32))) }
         ensures others { tally.new ≡ record tally.old { scanned = tally.new.scanned } }
         ensures grows { tally.old.scanned ≤ tally.new.scanned }
         ensures most { tally.new.scanned + 3 * span.start ≤ tally.old.scanned + 3 * span.end }
-        ensures counted { IfOk result (StepsToStop span (tally.new.scanned - tally.old.scanned)) }
+        ensures counted { IfOk result (StepsToWalkEnd span (tally.new.scanned - tally.old.scanned)) }
     {
         let end = span.end;
         let (mut from, mut start) = (from, span.start);
@@ -43,6 +43,7 @@ impl<'t> Table<'t> {
         let mut near = nearest;
         let mut scan = None;
         let passes = self.can_pass(by_scan, end - start);
+        // (a walk of this length and a pass that reads twice as much in vain fit into the rest)
         while passes && 3 * near <= end - start {
             let rest = Span { start, end };
             match self.reach(haystack, from, rest, start + near, tally)? {
@@ -61,12 +62,12 @@ impl<'t> Table<'t> {
         match self.reach(haystack, from, rest, usize::MAX, tally)? {
             Reached::Ends(stop) => Ok(Some(stop)),
             Reached::Nowhere => Ok(None),
-            Reached::Back(_) => Ok(None), // (there is no such place)
+            Reached::Back(_) => Ok(None), // (there is no such offset)
         }
     }
 }
 
-/// The scan of these numbers, if there is one, which is read once.
+/// The scan of these numbers, if there is one. The numbers are read once.
 #[inline(always)]
 fn kept_or_read(kept: Option<CandidateScan>, prints: &[u32]) -> Option<CandidateScan>
     requires prints { length prints.now ≡ SCAN_LEN }

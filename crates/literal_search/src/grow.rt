@@ -1,4 +1,4 @@
-//! The states of an automaton, made from the shorter to the longer words, and their rows.
+//! Builds the states of an automaton, from shorter to longer words, and their rows.
 ghost use Rattle.std.specs.Prelude.{◌≡◌, ◌+◌, ◌-◌, ◌*◌, ◌<◌, ◌≤◌, ◌^◌, ◌++◌, ◌∷◌, ◌==◌, ◌&&◌, [], ℕ, if◌then◌else◌};
 ghost use Rattle.std.specs.Prelude.{IfErr, IfOk, IfSome, List, Option, false, length, map};
 ghost use Rattle.std.specs.Prelude.{slice_index, slice_index_or, slice_range, true};
@@ -10,8 +10,8 @@ ghost use Rattle.literal_search.specs.Words.{ending, first_equal, live_suffix, w
 ghost use Rattle.literal_search.specs.Inside.Classes.{AreClasses, symbols_in};
 ghost use Rattle.literal_search.specs.Inside.Grown.{AreWords, IsLonger, failure_of, goes_on, list_for, symbols_after};
 ghost use Rattle.literal_search.specs.States.{AreStates, HasTooManyStates, IsRowsLength};
-ghost use Rattle.literal_search.specs.Inside.Growing.{AreTexts, AreWordsTo, Grows, IsNextState, LeadBack, LeadOn};
-ghost use Rattle.literal_search.specs.Inside.Growing.{LeadsIn, list_in, texts_of, word_behind, word_in, words_of};
+ghost use Rattle.literal_search.specs.Inside.Construction.{AreTexts, AreWordsTo, Grows, IsNextState, LeadBack, LeadOn};
+ghost use Rattle.literal_search.specs.Inside.Construction.{LeadsIn, list_in, texts_of, word_after, word_in, words_of};
 
 use crate::prepared::put_numbers;
 use crate::walk::{ENDS, NOTHING};
@@ -22,7 +22,7 @@ use std::alloc::{AllocError, Global};
 pub enum GrowError {
     /// Memory was refused.
     OutOfMemory,
-    /// The rows would be longer than the numbers in them reach.
+    /// The rows are longer than their numbers can index.
     TooManyStates,
 }
 
@@ -37,19 +37,19 @@ impl From<AllocError> for GrowError {
     }
 }
 
-/// The number that stands for the next class at the end of a pattern, which has no next class.
+/// The class after the last byte of a pattern, where there is none.
 const NO_CLASS: u32 = 256;
 
 /// The length of the longest row.
 const ROW_LEN: usize = 257;
 
-/// The most numbers, of four bytes each, for which the rows have room at first.
+/// The largest initial room for rows, in numbers of four bytes.
 const MOST_ROOM: usize = 1 << 24;
 
-/// The most numbers in all rows.
+/// The largest length of all rows.
 const LIMIT: usize = (1 << 31) - 1;
 
-/// Patterns, whose bytes are read by their classes.
+/// Patterns, whose bytes are read as their classes.
 #[derive(Clone, Copy)]
 pub struct Texts<'p> {
     pub classes: &'p [u8; 256],
@@ -58,7 +58,7 @@ pub struct Texts<'p> {
 }
 
 impl<'p> Texts<'p> {
-    /// The class with which a pattern goes on after so many symbols, and `NO_CLASS` at its end.
+    /// The class of a pattern's symbol at a depth, or `NO_CLASS` at its end.
     fn class_after(&self, pattern: u32, depth: u32) -> u32
         requires texts { AreTexts self.now }
         requires is_pattern { pattern < length self.now.patterns.now }
@@ -73,15 +73,15 @@ impl<'p> Texts<'p> {
         }
     }
 
-    /// Whether a pattern ends behind so many symbols and one more.
-    fn ends_behind(&self, pattern: u32, depth: u32) -> bool
+    /// Whether a pattern ends one symbol after a depth.
+    fn ends_after(&self, pattern: u32, depth: u32) -> bool
         requires { pattern < length self.now.patterns.now }
         ensures { result ≡ (length (pattern_at (texts_of self.now) pattern) == depth + 1) }
     {
         self.patterns[pattern as usize].len() == depth as usize + 1
     }
 
-    /// Adds a pattern to lists if the class with which it goes on is this one. Returns whether it ends there.
+    /// Adds a pattern to lists if its next class is this one. Returns whether it ends there.
     fn push_if_longer(
         &self,
         lists: &mut Vec<u32>,
@@ -101,10 +101,11 @@ impl<'p> Texts<'p> {
             return Ok(false);
         }
         lists.push(pattern)?;
-        Ok(self.ends_behind(pattern, depth))
+        Ok(self.ends_after(pattern, depth))
     }
 
-    /// Adds to lists the patterns of a state's list that go on with a class. Returns the first of them that ends there.
+    /// Appends to the lists the patterns of a state's list whose next class is this one. Returns the first of them that
+    /// ends there.
     fn push_longer(
         &self,
         lists: &mut Vec<u32>,
@@ -129,9 +130,9 @@ impl<'p> Texts<'p> {
             → slice_index_or lists.new.items k d < length self.now.patterns.now) }
     {
         let mut whole = None;
-        for place in here.start..here.end {
-            let pattern = lists[place];
-            let after = classes_after[place - here.start];
+        for index in here.start..here.end {
+            let pattern = lists[index];
+            let after = classes_after[index - here.start];
             if self.push_if_longer(lists, here.depth, class, pattern, after)? {
                 whole = whole.or(Some(pattern));
             }
@@ -139,8 +140,7 @@ impl<'p> Texts<'p> {
         Ok(whole)
     }
 
-    /// The number of numbers for which the rows have room at first: enough if no two patterns have a common prefix, but
-    /// at most `MOST_ROOM`.
+    /// The initial room for rows: enough if no two patterns have a common prefix, but at most `MOST_ROOM` numbers.
     fn first_room(&self) -> usize
         requires { AreTexts self.now }
     {
@@ -175,33 +175,33 @@ impl<'p> Texts<'p> {
     }
 }
 
-/// A state. Its word is a prefix of a pattern, and its list the patterns that begin with the word.
+/// A state. Its word is a prefix of a pattern, and its list has the patterns that begin with the word.
 #[derive(Clone, Copy)]
 pub struct State {
     /// A pattern that begins with the word.
     pub pattern: u32,
-    /// How long the word is.
+    /// The length of the word.
     pub depth: u32,
-    /// Where in all lists its own begins and ends.
+    /// The start and the end of its list in all lists.
     pub start: usize,
     pub end: usize,
-    /// The number in a row for the state of the live suffix behind the word's first symbol.
+    /// The number for its failure state, whose word is the live suffix of the word without its first symbol.
     pub failure: u32,
     /// The pattern that ends with the word.
     pub ending: u32,
 }
 
-/// States, each by its number, of which the first have their rows.
+/// All states so far. The first of them have their rows.
 #[derive(Drop)]
-pub struct Growing<'p> {
+pub struct Construction<'p> {
     pub texts: Texts<'p>,
     pub states: Vec<State>,
     pub lists: Vec<u32>,
     pub rows: Vec<u32>,
 }
 
-impl<'p> Growing<'p> {
-    /// Writes into a list the classes with which the patterns of a state's list go on.
+impl<'p> Construction<'p> {
+    /// Writes the next class of each pattern in a state's list.
     fn put_classes_after(
         &self,
         state: usize,
@@ -225,7 +225,7 @@ impl<'p> Growing<'p> {
         Ok(())
     }
 
-    /// Writes into a row the numbers in the row of a state's failure state. The first state has none: they are 0.
+    /// Copies the numbers of the failure state's row into a row. The start state has none: they are 0.
     fn put_failure_row(&self, state: usize, row: &mut [u32; ROW_LEN])
         requires grows { Grows self.now }
         requires is_state { state < length self.now.states.items }
@@ -236,12 +236,12 @@ impl<'p> Growing<'p> {
             row.fill(0);
             return;
         }
-        let start = place_of(self.states[state].failure);
+        let start = row_of(self.states[state].failure);
         put_numbers(row, 0, &self.rows[start..start + self.texts.width]);
     }
 
-    /// Adds to the lists the patterns of a state's list that go on with a class. Returns the first of them that ends
-    /// there.
+    /// Appends to the lists the patterns of a state's list whose next class is this one. Returns the first of them that
+    /// ends there.
     fn push_list(
         &mut self,
         state: usize,
@@ -254,9 +254,9 @@ impl<'p> Growing<'p> {
             ≡ symbols_after (texts_of self.old.texts) (word_of (words_of self.old) state) }
         ensures grows { IfOk result (λ _. Grows self.new) }
         ensures lists { IfOk result (λ _. self.new.lists.items ≡ self.old.lists.items
-            ++ list_for (texts_of self.old.texts) (word_behind self.old state class)) }
+            ++ list_for (texts_of self.old.texts) (word_after self.old state class)) }
         ensures whole { IfOk result (λ whole. whole ≡ first_equal (texts_of self.old.texts)
-            (word_behind self.old state class)) }
+            (word_after self.old state class)) }
         ensures same { IfOk result (λ _. (self.new.texts ≡ self.old.texts) × (self.new.states ≡ self.old.states)
             × (self.new.rows ≡ self.old.rows)) }
     {
@@ -267,7 +267,7 @@ impl<'p> Growing<'p> {
         Ok(whole)
     }
 
-    /// The ending of the state to which a number in a row leads. The number itself tells whether there is one.
+    /// The ending of the state to which a number leads. The number itself says whether there is one.
     fn ending_of(&self, code: u32) -> u32
         requires grows { Grows self.now }
         requires leads { (word : List ℕ) × LeadsIn self.now code word }
@@ -277,12 +277,12 @@ impl<'p> Growing<'p> {
         if code < ENDS {
             return NOTHING;
         }
-        self.states[place_of(code) / (self.texts.width + 1)].ending
+        self.states[row_of(code) / (self.texts.width + 1)].ending
     }
 
-    /// The state behind a state and a class whose list begins at a place, where the first pattern that ends there and
-    /// the number for its failure link are known.
-    fn state_behind(
+    /// The state after a state and a class. Its list begins at an index; the first pattern that ends there and the
+    /// number for its failure link are known.
+    fn state_after(
         &self,
         state: usize,
         class: u8,
@@ -294,11 +294,11 @@ impl<'p> Growing<'p> {
         requires is_state { state < length self.now.states.items }
         requires some { start < length self.now.lists.items }
         requires listed { slice_range self.now.lists.items start (length self.now.lists.items)
-            ≡ list_for (texts_of self.now.texts) (word_behind self.now state class) }
-        requires whole { whole ≡ first_equal (texts_of self.now.texts) (word_behind self.now state class) }
+            ≡ list_for (texts_of self.now.texts) (word_after self.now state class) }
+        requires whole { whole ≡ first_equal (texts_of self.now.texts) (word_after self.now state class) }
         requires failure { LeadsIn self.now failure
-            (failure_of (texts_of self.now.texts) (word_behind self.now state class)) }
-        ensures word { word_in (texts_of self.now.texts) result ≡ word_behind self.now state class }
+            (failure_of (texts_of self.now.texts) (word_after self.now state class)) }
+        ensures word { word_in (texts_of self.now.texts) result ≡ word_after self.now state class }
         ensures state { IsNextState self.now result }
     {
         let _ = class; // (its contract names it)
@@ -313,7 +313,7 @@ impl<'p> Growing<'p> {
         }
     }
 
-    /// Adds a state, where the rows of so many are not too long, and answers the number in a row for it.
+    /// Adds a state, if the rows of all states are not too long, and returns the number for it.
     fn add_state(&mut self, state: State) -> Result<u32, GrowError>
         requires grows { Grows self.old }
         requires state { IsNextState self.old state }
@@ -328,16 +328,16 @@ impl<'p> Growing<'p> {
             self.old.texts.width code (word_in (texts_of self.old.texts) state)) }
         ensures same { IfOk result (λ _. (self.new.texts ≡ self.old.texts) × (self.new.rows ≡ self.old.rows)) }
     {
-        let place = self.states.len() * (self.texts.width + 1);
-        if place + self.texts.width + 1 > LIMIT {
+        let row = self.states.len() * (self.texts.width + 1);
+        if row + self.texts.width + 1 > LIMIT {
             return Err(GrowError::TooManyStates);
         }
         self.push_state(state)?;
-        Ok(code_for(place as u32, state.ending))
+        Ok(code_for(row as u32, state.ending))
     }
 
     /// Adds a state.
-    #[tactic(auto, using(crate::proofs::lemmas::Growing::grown_state))]
+    #[tactic(auto, using(crate::proofs::lemmas::Construction::grown_state))]
     fn push_state(&mut self, state: State) -> Result<(), AllocError>
         requires grows { Grows self.old }
         requires state { IsNextState self.old state }
@@ -351,8 +351,8 @@ impl<'p> Growing<'p> {
         Ok(())
     }
 
-    /// The number in a row for a state and a class, where the number for the failure link is known. Adds the state to
-    /// which it leads if a pattern goes on with the class.
+    /// The number for a class in the row of a state, given the number for the failure link. If it is the next class of
+    /// a pattern, it adds the next state.
     fn next(
         &mut self,
         state: usize,
@@ -367,10 +367,10 @@ impl<'p> Growing<'p> {
         requires after { classes_after.now
             ≡ symbols_after (texts_of self.old.texts) (word_of (words_of self.old) state) }
         requires failure { LeadsIn self.old failure
-            (failure_of (texts_of self.old.texts) (word_behind self.old state class)) }
+            (failure_of (texts_of self.old.texts) (word_after self.old state class)) }
         ensures grows { IfOk result (λ _. Grows self.new) }
         ensures leads { IfOk result (λ code. LeadsTo (texts_of self.old.texts) (words_of self.new)
-            self.old.texts.width code (live_suffix (texts_of self.old.texts) (word_behind self.old state class))) }
+            self.old.texts.width code (live_suffix (texts_of self.old.texts) (word_after self.old state class))) }
         ensures words { IfOk result (λ _. AreWords (texts_of self.old.texts) (words_of self.new)
             self.old.texts.width (state * stride_of self.old.texts.width + class + 1)) }
         ensures too_many { IfErr result (λ error. error ≡ GrowError.TooManyStates
@@ -383,12 +383,12 @@ impl<'p> Growing<'p> {
         if self.lists.len() == start {
             return Ok(failure);
         }
-        let next = self.state_behind(state, class, start, whole, failure);
+        let next = self.state_after(state, class, start, whole, failure);
         let code = self.add_state(next)?;
         Ok(code)
     }
 
-    /// Writes into a row the number for a class, where the classes below it have theirs.
+    /// Writes the number for a class into a row. The classes below it have theirs.
     fn put_next(
         &mut self,
         state: usize,
@@ -413,13 +413,13 @@ impl<'p> Growing<'p> {
         ensures kept { IfOk result (λ _. IsLonger (words_of self.old) (words_of self.new)) }
         ensures same { IfOk result (λ _. (self.new.texts ≡ self.old.texts) × (self.new.rows ≡ self.old.rows)) }
     {
-        let place = class as usize;
-        row[place] = self.next(state, class, classes_after, row[place])?;
+        let column = class as usize;
+        row[column] = self.next(state, class, classes_after, row[column])?;
         Ok(())
     }
 
-    /// Makes the numbers of a state for all classes from those of its failure state. They differ for the classes with
-    /// which a pattern of the state's list goes on.
+    /// Makes a state's numbers for all classes from those of its failure state. They differ for the next classes of its
+    /// list.
     fn put_all_next(
         &mut self,
         state: usize,
@@ -449,7 +449,7 @@ impl<'p> Growing<'p> {
         Ok(())
     }
 
-    /// Adds the row of a state to the rows, whose numbers for all classes are given.
+    /// Appends the row of a state, whose numbers for all classes are given.
     fn push_row(&mut self, state: usize, row: &mut [u32; ROW_LEN]) -> Result<(), AllocError>
         requires grows { Grows self.old }
         requires is_state { state < length self.old.states.items }
@@ -464,7 +464,7 @@ impl<'p> Growing<'p> {
         Ok(())
     }
 
-    /// Adds the row of a state. What is in the list and in the row before does not matter.
+    /// Appends the row of a state. The buffers may hold anything before.
     fn add_row(
         &mut self,
         state: usize,
@@ -491,7 +491,7 @@ impl<'p> Growing<'p> {
     }
 }
 
-/// The smallest of the numbers from a bound on that is below another bound. If there is none, that other bound.
+/// The smallest number that is at least `from` and below `below`, or `below` if there is none.
 fn smallest_from(numbers: &[u32], from: u32, below: u32) -> u32
     ensures from { from ≤ below → from ≤ result }
     ensures below { result ≤ below }
@@ -500,16 +500,16 @@ fn smallest_from(numbers: &[u32], from: u32, below: u32) -> u32
 {
     let mut smallest = below;
     for number in numbers {
-        // (without a branch: the loop becomes one over vectors)
+        // (without a branch, so that the loop is vectorized)
         let candidate = if *number < from { below } else { *number };
         smallest = smallest.min(candidate);
     }
     smallest
 }
 
-/// Where the row of a state begins, from a number in a row.
-fn place_of(code: u32) -> usize
-    ensures { (place : ℕ) (pattern : Option ℕ) → place < 2 ^ 31 → code ≡ code_of place pattern → result ≡ place }
+/// The index of the row of a state, from a number for it.
+fn row_of(code: u32) -> usize
+    ensures { (row : ℕ) (pattern : Option ℕ) → row < 2 ^ 31 → code ≡ code_of row pattern → result ≡ row }
 {
     if code < ENDS {
         code as usize
@@ -518,20 +518,16 @@ fn place_of(code: u32) -> usize
     }
 }
 
-/// A number in a row, for a state.
-fn code_for(place: u32, ending: u32) -> u32
-    requires { place < 2 ^ 31 }
+/// The number for a state in a row.
+fn code_for(row: u32, ending: u32) -> u32
+    requires { row < 2 ^ 31 }
     ensures { (pattern : Option ℕ) → ending ≡ unwrap_or pattern nothing → IfSome pattern (λ i. i < nothing)
-        → result ≡ code_of place pattern }
+        → result ≡ code_of row pattern }
 {
-    if ending == NOTHING {
-        place
-    } else {
-        place + ENDS
-    }
+    if ending == NOTHING { row } else { row + ENDS }
 }
 
-/// The rows for patterns, in classes below the width. They are made in the memory of a list that is no longer needed.
+/// Builds the rows for patterns, in classes below the width. They reuse the memory of a list that is no longer needed.
 pub fn grow(
     alloc: Global,
     classes: &[u8; 256],
@@ -558,23 +554,27 @@ pub fn grow(
     if texts.has_too_long() {
         return Err(GrowError::TooManyStates);
     }
-    let mut growing = start(alloc, texts, unneeded)?;
+    let mut construction = start(alloc, texts, unneeded)?;
     let (mut classes_after, mut row) = (Vec::new(alloc), [0; ROW_LEN]);
     let mut state = 0;
-    while state < growing.states.len() {
-        growing.add_row(state, &mut classes_after, &mut row)?;
+    while state < construction.states.len() {
+        construction.add_row(state, &mut classes_after, &mut row)?;
         state += 1;
     }
-    Ok(growing.rows)
+    Ok(construction.rows)
 }
 
-/// The state of the empty word, and no row.
-fn start<'p>(alloc: Global, texts: Texts<'p>, unneeded: Vec<u32>) -> Result<Growing<'p>, AllocError>
+/// The state of the empty word, without a row.
+fn start<'p>(
+    alloc: Global,
+    texts: Texts<'p>,
+    unneeded: Vec<u32>,
+) -> Result<Construction<'p>, AllocError>
     requires { AreTexts texts }
-    ensures grows { IfOk result (λ growing. Grows growing) }
-    ensures start { IfOk result (λ growing. growing.rows.items ≡ []) }
-    ensures words { IfOk result (λ growing. words_of growing ≡ [] ∷ []) }
-    ensures texts { IfOk result (λ growing. growing.texts ≡ texts.entry) }
+    ensures grows { IfOk result (λ construction. Grows construction) }
+    ensures start { IfOk result (λ construction. construction.rows.items ≡ []) }
+    ensures words { IfOk result (λ construction. words_of construction ≡ [] ∷ []) }
+    ensures texts { IfOk result (λ construction. construction.texts ≡ texts.entry) }
 {
     let mut rows = unneeded;
     rows.clear();
@@ -589,7 +589,7 @@ fn start<'p>(alloc: Global, texts: Texts<'p>, unneeded: Vec<u32>) -> Result<Grow
         failure: 0,
         ending: NOTHING,
     })?;
-    Ok(Growing {
+    Ok(Construction {
         texts,
         states,
         lists,
@@ -597,7 +597,7 @@ fn start<'p>(alloc: Global, texts: Texts<'p>, unneeded: Vec<u32>) -> Result<Grow
     })
 }
 
-/// The numbers up to a bound.
+/// The numbers below a bound.
 fn numbers(alloc: Global, bound: usize) -> Result<Vec<u32>, AllocError>
     requires { bound ≤ 2 ^ 31 - 1 }
     ensures { IfOk result (λ numbers. numbers.items ≡ range_with_len 0 bound) }

@@ -1,4 +1,4 @@
-//! What follows from the definitions, for callers: call a law where its fact is needed.
+//! Consequences of the definitions, for callers. Call a law where its fact is needed.
 ghost use Rattle.std.specs.Prelude.{◌≡◌, ◌+◌, ◌<◌, ◌≤◌, ◌-◌, ◌^◌, ◌++◌, ◌∷◌, [], ℕ, Bool, List, length, take, Err};
 ghost use Rattle.std.specs.Prelude.{◌↔◌, ◌⊎◌, IsNone, None, Ok, Option, Some, false, map, slice_range, sum_by};
 ghost use Rattle.std.specs.Iterator.{Yields};
@@ -26,25 +26,25 @@ ghost use Rattle.literal_search.specs.declared.backward.TheConstants.{LEAST};
 ghost use Rattle.literal_search.specs.declared.prepared.ArrayTooShort.{ArrayTooShort};
 ghost use Rattle.literal_search.specs.Stream.{GivesStreamed, StreamValue, stream_of};
 
-/// An iterator that answers `None` stands at the end of its span then, and there it answers `None` and stays.
+/// After an iterator answers `None`, it is at the end of its span (`ends`). There it always answers `None` and stays.
 pub fn none_is_for_good()
     ensures ends { (old new : MatchesValue) → GivesMatch old None new → new.at ≡ new.span.end }
     ensures stays { (old new : MatchesValue) (answer : Option MatchValue) → old.at ≡ old.span.end
         → GivesMatch old answer new → IsNone answer × (new.at ≡ old.at) }
 {}
 
-/// What an iterator gives up to its first `None` is the greedy list from where it stood.
+/// The matches that an iterator gives before its first `None` are the greedy list from the offset where it began.
 pub fn iterations_are_greedy()
     ensures { (first last ended : MatchesValue) (all : List MatchValue) → Yields GivesMatch first all last
         → GivesMatch last None ended
         → IsGreedyIn first.search.query first.search.ignore_case first.haystack (between first.at first.span.end) all }
 {}
 
-/// An iteration that counts gives up to its first `None` the greedy list too. By patterns of at most 1,024 bytes it
-/// scans at most three times the bytes up to which it had not looked (`bounded`), however many matches; and each of
-/// those that it had not looked up (`each`). One that has just begun scans each byte of its span, and at most three
-/// times these, or by longer patterns eleven times these and for each match 36 times the first part (`whole`). One
-/// match more leads it on (`more`).
+/// An iteration that counts also gives the greedy list before its first `None` (`greedy`). If no pattern has more than
+/// 1,024 bytes, it scans at most three times the bytes past the offset up to which it had looked (`bounded`), for any
+/// number of matches, and each byte that it had not looked up (`each`). An iteration from the start scans each byte of
+/// its span. It scans at most three times as many, or with longer patterns eleven times as many, and 36 times the first
+/// part for each match (`whole`). One more match extends an iteration (`more`).
 pub fn iterations_scan_at_most()
     ensures bounded { (first last ended : MatchesValue × Counts) (all : List MatchValue)
         → longest_of first.0.search.query.patterns ≤ LEAST
@@ -70,10 +70,10 @@ pub fn iterations_scan_at_most()
         → Yields GivesCounted first (all ++ found ∷ []) next }
 {}
 
-/// What an iteration over the matches in what a reader gives, if these bytes are known, gave so far begins the greedy
-/// list of all of them, and up to its first `None`, with no error in front of it, it is that list (`whole`): then it
-/// stands behind all of them (`read`). With an error, behind what it gave no match begins but in the last bytes that
-/// were read, fewer than the longest pattern has (`failed`).
+/// If the bytes of a reader are known, the matches that an iteration over a stream has given begin the greedy list of
+/// these bytes (`so_far`). After its first `None`, without an error before it, they are that list (`whole`), and the
+/// iteration is past all bytes (`read`). After an error, no further match begins before the last bytes that were read,
+/// fewer than the longest pattern has (`failed`).
 pub fn streams_are_greedy()
     ensures so_far { (search : SearchValue) (bytes : List ℕ) (last : StreamValue) (all more : List MatchValue)
         → Yields GivesStreamed (stream_of search (Some bytes)) (map Ok all) last
@@ -87,13 +87,13 @@ pub fn streams_are_greedy()
         → ended.offset ≡ length bytes }
     ensures failed { (search : SearchValue) (bytes : List ℕ) (last ended : StreamValue) (all : List MatchValue)
         (error : Error) → Yields GivesStreamed (stream_of search (Some bytes)) (map Ok all) last
-        → GivesStreamed last (Some (Err error)) ended → (i place : ℕ)
-        → Occurs search.query.patterns search.ignore_case bytes (rest_from bytes last.offset) i place
-        → ended.offset - (longest_of search.query.patterns - 1) ≤ place }
+        → GivesStreamed last (Some (Err error)) ended → (i offset : ℕ)
+        → Occurs search.query.patterns search.ignore_case bytes (rest_from bytes last.offset) i offset
+        → ended.offset - (longest_of search.query.patterns - 1) ≤ offset }
 {}
 
-/// What an iteration over everything that occurs in a span gives up to its first `None` is every occurrence once, in
-/// the order of ends and, at one end, of identifiers.
+/// An iteration over every occurrence in a span gives each occurrence once before its first `None`, in the order of
+/// ends and, at one end, of pattern numbers.
 pub fn iterations_give_each_occurrence_once()
     ensures { (search : OverlappingValue) (haystack : List ℕ) (span : Span) (first last ended : OverlappingMatchesValue)
         (all : List MatchValue)
@@ -102,8 +102,8 @@ pub fn iterations_give_each_occurrence_once()
         → IsOverlapping search.patterns search.ignore_case haystack span all }
 {}
 
-/// Where case is kept, replacing each match by its own pattern changes nothing (`same`). A text in which matches are
-/// replaced is longer by the replacements, and shorter by the matches (`length`).
+/// If case is kept, replacing each match by its own pattern changes nothing (`same`). Replacing makes a text longer by
+/// the replacements, and shorter by the matches (`length`).
 pub fn replacing_changes_the_matches_alone()
     ensures same { (query : Query) (haystack : List ℕ) (all : List MatchValue)
         → IsGreedy query false haystack 0 all → replaced haystack query.patterns 0 all ≡ haystack }
@@ -113,8 +113,8 @@ pub fn replacing_changes_the_matches_alone()
         ≡ length haystack + sum_by (λ found. length (pattern_at replacements found.pattern)) all }
 {}
 
-/// What occurs of texts, none of them empty, in a text begins and ends between characters, with case ignored too, so
-/// that [`Span::of_str`](crate::Span::of_str) may be called with a match.
+/// If the patterns are non-empty texts, an occurrence in a text begins and ends between characters, also with case
+/// ignored. So [`Span::of_str`](crate::Span::of_str) may be called with a match.
 pub fn matches_of_texts_lie_between_characters()
     ensures { (patterns : List (List ℕ)) (ignore_case : Bool) (text : List ℕ) (span : Span) (i at : ℕ)
         → All IsUtf8 patterns → NoneIsEmpty patterns → IsUtf8 text → span.end ≤ length text
@@ -122,8 +122,8 @@ pub fn matches_of_texts_lie_between_characters()
         → IsCharBoundary text at × IsCharBoundary text (at + length (pattern_at patterns i)) }
 {}
 
-/// An array begins with a prepared search if its first places do, and what it begins with stands in as many places as
-/// its numbers say, so that these may be copied.
+/// An array begins with a prepared search if its first entries do. A prepared search takes as many entries as its
+/// numbers say, so these entries alone may be copied.
 pub fn first_places_are_enough()
     ensures longer { (search : SearchValue) (numbers : List ℕ) (n : ℕ)
         → IsPrepared search (take n numbers) → IsPrepared search numbers }
@@ -136,22 +136,21 @@ pub fn first_places_are_enough()
         → IsPreparedOverlapping search (take n numbers) }
 {}
 
-/// The patterns alone tell how many places a search takes as numbers (`once`). So what
-/// [`Search::prepared_len`](crate::Search::prepared_len) answers is enough: no array is refused that has as many
-/// (`enough`).
+/// A search always takes the same number of entries (`once`). So an array of
+/// [`Search::prepared_len`](crate::Search::prepared_len) entries or more is never refused (`enough`).
 pub fn prepared_lengths_are_enough()
     ensures once { (search : SearchValue) (n m : ℕ) → TakesPlaces search n → TakesPlaces search m → n ≡ m }
     ensures enough { (search : SearchValue) (n : ℕ) (array : List ℕ) (error : ArrayTooShort)
         → TakesPlaces search n → n ≤ length array → ¬ RefusesToPrepare search array error }
 {}
 
-/// The check over numbers finds a change of one of them: if it is the same, so is that number.
+/// A checksum finds a change of one number: if the checksum is the same, so is that number.
 pub fn changed_number_is_found()
     ensures { (before behind : List ℕ) (one other : ℕ) → one < 2 ^ 32 → other < 2 ^ 32
         → check_of (before ++ one ∷ behind) ≡ check_of (before ++ other ∷ behind) → one ≡ other }
 {}
 
-/// No array that holds nothing but zeros behind its version is whole.
+/// No array with only zeros after its version is whole.
 pub fn zeros_are_refused()
     ensures prepared { (version : ℕ) (zeros : List ℕ) → All (λ number. number ≡ 0) zeros
         → ¬ IsWhole (version ∷ zeros) }
@@ -159,15 +158,15 @@ pub fn zeros_are_refused()
         → ¬ IsWholeOverlapping (version ∷ zeros) }
 {}
 
-/// An iterator over everything that occurs that answers `None` keeps doing so, and stays where it is.
+/// If an iterator over every occurrence answers `None`, it always does so afterwards, and stays unchanged.
 pub fn overlapping_is_over_for_good()
     ensures { (old new newer : OverlappingMatchesValue) (answer : Option MatchValue) → GivesOverlapping old None new
         → GivesOverlapping new answer newer → IsNone answer × (newer ≡ new) }
 {}
 
-/// With `LeftmostLongest` each pattern that occurs where a match by [`Search::match_in`](crate::Search::match_in)
+/// With `LeftmostLongest`, each pattern that occurs where a match of [`Search::match_in`](crate::Search::match_in)
 /// begins, in the same span, is as long as the match, or occurs in the span that ends one byte before the match does.
-/// So repeated calls, each in such a span, give a match of each length, the longest first.
+/// So repeated calls, each with such a span, give a match of each length, the longest first.
 pub fn shorter_matches_lie_in_shorter_spans()
     ensures { (query : Query) (ignore_case : Bool) (haystack : List ℕ) (span : Span) (found : MatchValue) (i : ℕ)
         → query.kind ≡ LeftmostLongest → IsMatchIn query ignore_case haystack span (Some found)
@@ -176,8 +175,8 @@ pub fn shorter_matches_lie_in_shorter_spans()
         ⊎ Occurs query.patterns ignore_case haystack (between span.start (found.end - 1)) i span.start }
 {}
 
-/// A pattern occurs at the end of a part of a haystack, as a text of its own, exactly if it occurs there in the
-/// haystack (`one`). So the patterns that are a suffix of the part are those that occur at its end (`all`).
+/// A pattern occurs at the end of a part of a haystack, taken as a text of its own, exactly if it occurs there in the
+/// haystack (`one`). So the patterns that are suffixes of the part are those that occur at its end (`all`).
 pub fn parts_end_as_in_the_haystack()
     ensures one { (patterns : List (List ℕ)) (ignore_case : Bool) (haystack : List ℕ) (from at i : ℕ)
         → from ≤ at → at ≤ length haystack

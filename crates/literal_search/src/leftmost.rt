@@ -1,5 +1,5 @@
-//! The leftmost match of a span, by walks from the right by an automaton of the reversed patterns. No memory is asked
-//! for. The numbers may be lent, and so any: they are damaged where one leads out of the rows.
+//! The leftmost match of a span, by backward walks with an automaton of the reversed patterns. They allocate nothing.
+//! Lent numbers may be wrong: if one points outside the rows, the answer is `Damaged`.
 ghost use Rattle.std.specs.Prelude.{◌≡◌, ◌⊎◌, ◌+◌, ◌-◌, ◌*◌, ◌/◌, ◌<◌, ◌≤◌, ◌^◌, ◌%◌, ℕ, length, max, min};
 ghost use Rattle.std.specs.Prelude.{IfOk, IfSome, IsNone, IsTrue, List, MatchOption, Some, ◌↔◌};
 ghost use Rattle.std.specs.Result.{IsOkAnd};
@@ -9,12 +9,13 @@ ghost use Rattle.literal_search.specs.At.{IsMatchIn};
 ghost use Rattle.literal_search.specs.Inside.Backward.{ForBackward, IsMatchBy};
 ghost use Rattle.literal_search.specs.Inside.Backward.{IsSafe, NoneFrom};
 ghost use Rattle.literal_search.specs.Inside.Leftmost.{AreLanes, AreSteps, HasBytes, HavePassed, HaveRows};
-ghost use Rattle.literal_search.specs.Inside.Leftmost.{IsFirstBegun, IsFourParts, NoneBehind};
-ghost use Rattle.literal_search.specs.Inside.Leftmost.{IsLane, IsLed};
-ghost use Rattle.literal_search.specs.Inside.Leftmost.{IsFront, IsLimit, IsPaid, IsPart, IsStep, LiesInPart, ReadsFor};
+ghost use Rattle.literal_search.specs.Inside.Leftmost.{IsFirstStart, IsFourParts, NoneAfter};
+ghost use Rattle.literal_search.specs.Inside.Leftmost.{AreLaneStates, IsLane};
+ghost use Rattle.literal_search.specs.Inside.Leftmost.{IsLimit, IsPaid, IsPart, IsProgress, IsStep};
+ghost use Rattle.literal_search.specs.Inside.Leftmost.{LiesInPart, ReadsFor};
 ghost use Rattle.literal_search.specs.Inside.Leftmost.{AreFor, ahead_by, owed_by};
 
-use crate::backward::{Backward, Begun};
+use crate::backward::{Backward, PatternStart};
 use crate::prepared::{Damaged, scan_in};
 use crate::scan::{credited, owed_by};
 use crate::walk::ENDS;
@@ -22,28 +23,27 @@ use literal_base::count::Tally;
 use literal_base::{Match, Span};
 use literal_fingerprints::CandidateScan;
 
-/// The least length of the parts of the first block through which four walks go at once.
+/// The least length of the parts of the first block.
 pub(crate) const FIRST: usize = 16;
 
 /// Parts double from block to block until they have at least this length.
 const LAST: usize = 1024;
 
-/// Four walks go through the last block if its parts have at least this length. One walk is faster through less, as
-/// each of the four first reads a lead.
+/// The least length of the parts of the last block for four walks. In less than that one walk is faster, since each of
+/// the four first reads a lead.
 const LEAST_PART: usize = 11;
 
-/// Before one walk looks at a candidate, a scan passed over this many bytes, or as many as the longest pattern has,
-/// whichever is more.
+/// One walk looks at a candidate after a scan has passed over this many bytes, or the length of the longest pattern if
+/// that is more.
 pub(crate) const PRICE: usize = 48;
 
-/// The largest number of bytes that count as passed over.
+/// The largest number of bytes that are credited as passed over.
 const MOST_CREDIT: usize = 2048;
 
-/// A scan for candidates looks up at most this many bytes more than three times those that it passes over.
+/// The most bytes that a scan for candidates looks up in addition to three times those that it passes over.
 pub(crate) const OVERLAP: usize = 19;
 
-/// The rows at which four walks stand, each in one of four neighbouring parts of a span, or the numbers that they read
-/// last.
+/// The rows of four walks, each in one of four adjacent parts of a span, or the numbers that the walks read last.
 #[derive(Clone, Copy)]
 pub struct Lanes {
     pub first: usize,
@@ -53,7 +53,7 @@ pub struct Lanes {
 }
 
 impl Lanes {
-    /// Whether all four are rows below a limit.
+    /// Whether all four are rows below a limit. A number with the bit that says that a pattern begins is none.
     #[inline(always)]
     pub(crate) fn are_rows(&self, limit: usize) -> bool
         ensures { IsTrue result ↔ HaveRows limit self.now }
@@ -64,58 +64,57 @@ impl Lanes {
 
 /// Four walks at the ends of four parts.
 #[derive(Clone, Copy)]
-pub struct Led {
+pub struct LaneStates {
     pub lanes: Lanes,
-    /// The first place behind the parts at which a pattern begins, as far as the fourth walk tells.
-    pub behind: Option<Begun>,
+    /// The first offset after the parts at which a pattern begins, if the fourth walk found one.
+    pub behind: Option<PatternStart>,
 }
 
-/// How far four walks have gone through their parts.
+/// The progress of four walks through their parts.
 #[derive(Clone, Copy)]
 pub struct Passed {
-    /// The number of places of each part that are left, with the one that was read last; and 0 if nothing begins in
-    /// the parts.
+    /// The number of offsets left in each part, with the one that was read last, or 0 if no pattern begins there.
     pub left: usize,
     /// The numbers that the walks read last.
     pub codes: Lanes,
 }
 
-/// A block of a span through which four walks go at once.
+/// A block of a span for four walks at once.
 #[derive(Clone, Copy)]
 pub struct Block {
-    /// How long each of its four parts is.
+    /// The length of each of its four parts.
     pub part: usize,
-    /// How far behind its part each walk begins.
+    /// The number of bytes after its part where each walk begins.
     pub lead: usize,
-    /// Where the block ends: behind the four parts, or at the end of the span.
+    /// The end of the block: after the four parts, or the end of the span.
     pub end: usize,
 }
 
-/// How far a search has come.
+/// The progress of a search.
 #[derive(Clone, Copy)]
-pub struct Front {
-    /// Nothing begins before this place.
+pub struct Progress {
+    /// No pattern begins before this offset.
     pub at: usize,
-    /// The number of bytes that a scan passed over, less what they paid for.
+    /// The number of bytes that a scan passed over, minus those that walks at candidates used up.
     pub credit: usize,
     /// The length of each of the four parts of the next block.
     pub part: usize,
 }
 
-/// What a search found at its next step, or how far it has come by it.
+/// The result of a search's next step: what it found, and its progress.
 #[derive(Clone, Copy)]
-pub struct Looked {
-    pub first: Option<Begun>,
-    pub front: Front,
+pub struct StepResult {
+    pub first: Option<PatternStart>,
+    pub progress: Progress,
 }
 
 impl<'t> Backward<'t> {
-    /// The number for a byte of the haystack in the row that begins at a place. It leads to a row before the limit.
+    /// The number for a byte of the haystack in the row at an index. It leads to a row below the limit.
     #[inline(always)]
     pub(crate) fn step(
         &self,
         classes: &[u8; 256],
-        place: usize,
+        row: usize,
         haystack: &[u8],
         at: usize,
         limit: usize,
@@ -124,75 +123,77 @@ impl<'t> Backward<'t> {
         requires safe { IsSafe self.now }
         requires same { HasBytes self.now classes.now }
         requires limit { IsLimit self.now limit }
-        requires row { place < limit }
+        requires row { row < limit }
         requires inside { at < length haystack.now }
         ensures step { ForBackward self.now (λ tables. (span : Span) (end next to : ℕ) → span.end ≤ length haystack.now
-            → next ≡ at + 1 → to ≡ at → IsLane tables haystack.now span end next place
+            → next ≡ at + 1 → to ≡ at → IsLane tables haystack.now span end next row
             → IsOkAnd result (IsStep tables haystack.now span end to)) }
         ensures leads { IfOk result (λ code. code % 2 ^ 31 < limit) }
         ensures ticks { tally.new ≡ record tally.old { scanned = tally.old.scanned + 1 } }
     {
-        let code = self.table.code_by(classes, place, haystack, at, tally);
+        let code = self.table.code_by(classes, row, haystack, at, tally);
+        // (without the bit that says that a pattern begins)
         if (code % ENDS) as usize >= limit {
             return Err(Damaged);
         }
         Ok(code)
     }
 
-    /// Where a walk goes on from a row by a byte of the haystack. If a pattern begins at the byte, that is noted.
+    /// The next row of a walk after a byte of the haystack. If a pattern begins at the byte, `begun` gets it.
     #[inline(always)]
     fn follow(
         &self,
         classes: &[u8; 256],
-        place: usize,
+        row: usize,
         haystack: &[u8],
         at: usize,
         limit: usize,
-        begun: &mut Option<Begun>,
+        begun: &mut Option<PatternStart>,
         tally: &mut Tally,
     ) -> Result<usize, Damaged>
         requires safe { IsSafe self.now }
         requires same { HasBytes self.now classes.now }
         requires limit { IsLimit self.now limit }
-        requires row { place < limit }
+        requires row { row < limit }
         requires inside { at < length haystack.now }
         ensures lane { ForBackward self.now (λ tables. (span : Span) (end next to : ℕ) → span.end ≤ length haystack.now
-            → next ≡ at + 1 → to ≡ at → IsLane tables haystack.now span end next place
+            → next ≡ at + 1 → to ≡ at → IsLane tables haystack.now span end next row
             → IsOkAnd result (IsLane tables haystack.now span end to)) }
         ensures first { ForBackward self.now (λ tables. (span : Span) (end next to upto : ℕ)
             → span.end ≤ length haystack.now → next ≡ at + 1 → to ≡ at → at < end
-            → IsLane tables haystack.now span end next place
-            → IsFirstBegun tables haystack.now span.end (between next upto) begun.old
-            → IsFirstBegun tables haystack.now span.end (between to upto) begun.new) }
+            → IsLane tables haystack.now span end next row
+            → IsFirstStart tables haystack.now span.end (between next upto) begun.old
+            → IsFirstStart tables haystack.now span.end (between to upto) begun.new) }
         ensures lies { (next to upto : ℕ) → next ≡ at + 1 → to ≡ at → at < upto → LiesInPart next upto begun.old
             → LiesInPart to upto begun.new }
         ensures leads { IfOk result (λ on. on < limit) }
         ensures ticks { tally.new ≡ record tally.old { scanned = tally.old.scanned + 1 } }
     {
-        let code = self.table.code_by(classes, place, haystack, at, tally);
+        let code = self.table.code_by(classes, row, haystack, at, tally);
         self.go_on(code, at, limit, begun)
     }
 
-    /// Where a walk goes on that read a number for the byte at a place. If a pattern begins there, that is noted.
+    /// The next row of a walk that read a number for the byte at an offset. If a pattern begins there, `begun` gets it.
     #[inline(always)]
     fn go_on(
         &self,
         code: u32,
         at: usize,
         limit: usize,
-        begun: &mut Option<Begun>,
+        begun: &mut Option<PatternStart>,
     ) -> Result<usize, Damaged>
         requires limit { IsLimit self.now limit }
         ensures lane { ForBackward self.now (λ tables. (haystack : List ℕ) (span : Span) (end to : ℕ) → to ≡ at
             → IsStep tables haystack span end to code → IsOkAnd result (IsLane tables haystack span end to)) }
         ensures first { ForBackward self.now (λ tables. (haystack : List ℕ) (span : Span) (end next to upto : ℕ)
             → next ≡ at + 1 → to ≡ at → at < end → IsStep tables haystack span end to code
-            → IsFirstBegun tables haystack span.end (between next upto) begun.old
-            → IsFirstBegun tables haystack span.end (between to upto) begun.new) }
+            → IsFirstStart tables haystack span.end (between next upto) begun.old
+            → IsFirstStart tables haystack span.end (between to upto) begun.new) }
         ensures lies { (next to upto : ℕ) → next ≡ at + 1 → to ≡ at → at < upto → LiesInPart next upto begun.old
             → LiesInPart to upto begun.new }
         ensures leads { IfOk result (λ on. on < limit) }
     {
+        // (one comparison for most bytes: below the limit, a number is a row, and no pattern begins)
         if (code as usize) < limit {
             return Ok(code as usize);
         }
@@ -200,11 +201,11 @@ impl<'t> Backward<'t> {
         if on >= limit {
             return Err(Damaged);
         }
-        *begun = Some(Begun { at, code });
+        *begun = Some(PatternStart { at, code });
         Ok(on)
     }
 
-    /// Where a walk stands at an end, that began so far behind the end that it tells all that begins before it.
+    /// The row of a walk at an offset. It begins far enough after the offset to find all that begins before it.
     pub(crate) fn walk_back(
         &self,
         classes: &[u8; 256],
@@ -220,7 +221,7 @@ impl<'t> Backward<'t> {
         requires valid { IsValidSpan haystack.now span }
         requires inside { end ≤ span.end }
         ensures lane { ForBackward self.now (λ tables. IsOkAnd result (IsLane tables haystack.now span end end)) }
-        ensures row { IfOk result (λ place. place < limit) }
+        ensures row { IfOk result (λ row. row < limit) }
         ensures others { tally.new ≡ record tally.old { scanned = tally.new.scanned } }
         ensures most { tally.new.scanned + end
             ≤ tally.old.scanned + min (end + (self.now.table.longest - 1)) span.end }
@@ -229,16 +230,16 @@ impl<'t> Backward<'t> {
     {
         let ahead = self.table.longest.saturating_sub(1).min(span.end - end);
         let from = end + ahead;
-        let mut place = 0;
+        let mut row = 0;
         for at in (end..from).rev() {
-            let code = self.step(classes, place, haystack, at, limit, tally)?;
-            place = (code % ENDS) as usize;
+            let code = self.step(classes, row, haystack, at, limit, tally)?;
+            row = (code % ENDS) as usize;
         }
-        Ok(place)
+        Ok(row)
     }
 
-    /// The first place of a part of a span at which a pattern begins, or else the one that is known behind it, by a
-    /// walk that stands at the part's end.
+    /// The first offset in a part of a span at which a pattern begins, or the one that is known after the part. The
+    /// walk is in the row at index `from` at the part's end.
     #[inline(always)]
     fn first_in(
         &self,
@@ -247,10 +248,10 @@ impl<'t> Backward<'t> {
         span: Span,
         part: Span,
         from: usize,
-        behind: Option<Begun>,
+        behind: Option<PatternStart>,
         limit: usize,
         tally: &mut Tally,
-    ) -> Result<Option<Begun>, Damaged>
+    ) -> Result<Option<PatternStart>, Damaged>
         requires safe { IsSafe self.now }
         requires same { HasBytes self.now classes.now }
         requires limit { IsLimit self.now limit }
@@ -259,24 +260,24 @@ impl<'t> Backward<'t> {
         requires row { from < limit }
         ensures first { ForBackward self.now (λ tables. (end upto : ℕ) → part.end ≤ end
             → IsLane tables haystack.now span end part.end from
-            → IsFirstBegun tables haystack.now span.end (between part.end upto) behind
-            → IsOkAnd result (IsFirstBegun tables haystack.now span.end (between part.start upto))) }
+            → IsFirstStart tables haystack.now span.end (between part.end upto) behind
+            → IsOkAnd result (IsFirstStart tables haystack.now span.end (between part.start upto))) }
         ensures inside { (upto : ℕ) → part.end ≤ upto → LiesInPart part.end upto behind
             → IfOk result (LiesInPart part.start upto) }
         ensures others { tally.new ≡ record tally.old { scanned = tally.new.scanned } }
         ensures most { tally.new.scanned + part.start ≤ tally.old.scanned + part.end }
         ensures all { IfOk result (λ _. tally.new.scanned + part.start ≡ tally.old.scanned + part.end) }
     {
-        let mut place = from;
+        let mut row = from;
         let mut first = behind;
         for at in (part.start..part.end).rev() {
-            place = self.follow(classes, place, haystack, at, limit, &mut first, tally)?;
+            row = self.follow(classes, row, haystack, at, limit, &mut first, tally)?;
         }
         Ok(first)
     }
 
-    /// The first place of a part of a span at which a pattern begins, by one walk from so far behind it that all that
-    /// begins there lies before.
+    /// The first offset in a part of a span at which a pattern begins, by one walk. It begins far enough after the part
+    /// for the longest pattern.
     #[inline(always)]
     pub(crate) fn begun_in(
         &self,
@@ -286,14 +287,14 @@ impl<'t> Backward<'t> {
         part: Span,
         limit: usize,
         tally: &mut Tally,
-    ) -> Result<Option<Begun>, Damaged>
+    ) -> Result<Option<PatternStart>, Damaged>
         requires safe { IsSafe self.now }
         requires same { HasBytes self.now classes.now }
         requires limit { IsLimit self.now limit }
         requires valid { IsValidSpan haystack.now span }
         requires part { IsPart span part }
         ensures first { ForBackward self.now (λ tables. IsOkAnd result
-            (IsFirstBegun tables haystack.now span.end part)) }
+            (IsFirstStart tables haystack.now span.end part)) }
         ensures inside { IfOk result (LiesInPart part.start part.end) }
         ensures others { tally.new ≡ record tally.old { scanned = tally.new.scanned } }
         ensures most { tally.new.scanned + part.start
@@ -301,11 +302,11 @@ impl<'t> Backward<'t> {
         ensures all { IfOk result (λ _. tally.new.scanned + part.start
             ≡ tally.old.scanned + min (part.end + (self.now.table.longest - 1)) span.end) }
     {
-        let place = self.walk_back(classes, haystack, span, part.end, limit, tally)?;
-        self.first_in(classes, haystack, span, part, place, None, limit, tally)
+        let row = self.walk_back(classes, haystack, span, part.end, limit, tally)?;
+        self.first_in(classes, haystack, span, part, row, None, limit, tally)
     }
 
-    /// What begins at a place of a span, by one walk.
+    /// The pattern that begins at an offset of a span, by one walk.
     pub(crate) fn begun_at(
         &self,
         classes: &[u8; 256],
@@ -314,7 +315,7 @@ impl<'t> Backward<'t> {
         at: usize,
         limit: usize,
         tally: &mut Tally,
-    ) -> Result<Option<Begun>, Damaged>
+    ) -> Result<Option<PatternStart>, Damaged>
         requires safe { IsSafe self.now }
         requires same { HasBytes self.now classes.now }
         requires limit { IsLimit self.now limit }
@@ -322,7 +323,7 @@ impl<'t> Backward<'t> {
         requires after { span.start ≤ at }
         requires inside { at < span.end }
         ensures first { ForBackward self.now (λ tables. IsOkAnd result
-            (IsFirstBegun tables haystack.now span.end (between at (at + 1)))) }
+            (IsFirstStart tables haystack.now span.end (between at (at + 1)))) }
         ensures inside { IfOk result (LiesInPart at (at + 1)) }
         ensures others { tally.new ≡ record tally.old { scanned = tally.new.scanned } }
         ensures most { tally.new.scanned ≤ tally.old.scanned + max self.now.table.longest 1 }
@@ -336,7 +337,7 @@ impl<'t> Backward<'t> {
         self.begun_in(classes, haystack, span, part, limit, tally)
     }
 
-    /// A place of a span, or its end, before which no pattern begins, by the scan for candidates, if there is one.
+    /// Passes over bytes by the scan for candidates, if any. No pattern begins before the returned offset.
     #[inline(always)]
     pub(crate) fn pass_over(
         &self,
@@ -363,8 +364,7 @@ impl<'t> Backward<'t> {
         }
     }
 
-    /// Four walks at once, each through as many bytes behind one of four neighbouring parts of a span, so that no
-    /// look-up waits for those of the others.
+    /// Runs four walks at once through the leads after four adjacent parts, so that no look-up waits for another.
     #[inline(never)]
     pub(crate) fn lead_in_four(
         &self,
@@ -375,13 +375,14 @@ impl<'t> Backward<'t> {
         block: Block,
         limit: usize,
         tally: &mut Tally,
-    ) -> Result<Led, Damaged>
+    ) -> Result<LaneStates, Damaged>
         requires safe { IsSafe self.now }
         requires same { HasBytes self.now classes.now }
         requires limit { IsLimit self.now limit }
         requires valid { IsValidSpan haystack.now span }
         requires parts { IsFourParts self.now.table.longest span at block }
-        ensures led { ForBackward self.now (λ tables. IsOkAnd result (IsLed tables haystack.now span at block)) }
+        ensures led { ForBackward self.now (λ tables. IsOkAnd result
+            (AreLaneStates tables haystack.now span at block)) }
         ensures lies { IfOk result (λ led. LiesInPart (at + 4 * block.part) (at + 4 * block.part + block.lead)
             led.behind) }
         ensures rows { IfOk result (λ led. HaveRows limit led.lanes) }
@@ -391,7 +392,7 @@ impl<'t> Backward<'t> {
     {
         let part = block.part;
         let (mut first, mut second, mut third, mut fourth) = (0, 0, 0, 0);
-        let mut behind = None; // (what begins in the next part, its own walk tells)
+        let mut behind = None; // (the walk of the next part finds what begins there)
         for step in (0..block.lead).rev() {
             let here = at + part + step;
             let one = self.step(classes, first, haystack, here, limit, tally)?;
@@ -411,11 +412,11 @@ impl<'t> Backward<'t> {
             third,
             fourth,
         };
-        Ok(Led { lanes, behind })
+        Ok(LaneStates { lanes, behind })
     }
 
-    /// The same walks through the parts, up to the first step at which a number does not lead on: where a pattern
-    /// begins, or where it is damaged. They stop with that step.
+    /// Continues these walks through the parts, up to the first step at which a number does not lead on: a pattern
+    /// begins there, or the number is damaged. All four stop with that step.
     #[inline(never)]
     pub(crate) fn pass_in_four(
         &self,
@@ -462,8 +463,8 @@ impl<'t> Backward<'t> {
         }
     }
 
-    /// The first place of four neighbouring parts at which a pattern begins, by four walks that stopped at some place
-    /// of each. Each is followed alone, from the left, up to the one that finds something.
+    /// The first offset in four adjacent parts at which a pattern begins, by four walks that have stopped. Each walk is
+    /// continued alone, from the left, up to the one that finds a pattern.
     #[inline(never)]
     fn first_of_lanes(
         &self,
@@ -475,7 +476,7 @@ impl<'t> Backward<'t> {
         passed: Passed,
         limit: usize,
         tally: &mut Tally,
-    ) -> Result<Option<Begun>, Damaged>
+    ) -> Result<Option<PatternStart>, Damaged>
         requires safe { IsSafe self.now }
         requires same { HasBytes self.now classes.now }
         requires limit { IsLimit self.now limit }
@@ -487,8 +488,8 @@ impl<'t> Backward<'t> {
         requires fits { HaveRows (2 ^ 32) passed.codes }
         ensures first { ForBackward self.now (λ tables.
             AreSteps tables haystack.now span at part (passed.left - 1) passed.codes
-            → NoneBehind tables haystack.now span.end at part passed.left
-            → IsOkAnd result (IsFirstBegun tables haystack.now span.end (between at (at + 4 * part)))) }
+            → NoneAfter tables haystack.now span.end at part passed.left
+            → IsOkAnd result (IsFirstStart tables haystack.now span.end (between at (at + 4 * part)))) }
         ensures inside { IfOk result (LiesInPart at (at + 4 * part)) }
         ensures others { tally.new ≡ record tally.old { scanned = tally.new.scanned } }
         ensures most { tally.new.scanned ≤ tally.old.scanned + 4 * (passed.left - 1) }
@@ -520,8 +521,8 @@ impl<'t> Backward<'t> {
         self.first_before(classes, haystack, span, part, codes.fourth, limit, tally)
     }
 
-    /// The first place of a part of a span at which a pattern begins, or the place behind it if one begins there, by a
-    /// walk that read a number for that place.
+    /// The first offset in a part of a span at which a pattern begins, or the offset after it if one begins there. The
+    /// walk has read the number for that offset.
     #[inline(always)]
     fn first_before(
         &self,
@@ -532,7 +533,7 @@ impl<'t> Backward<'t> {
         code: usize,
         limit: usize,
         tally: &mut Tally,
-    ) -> Result<Option<Begun>, Damaged>
+    ) -> Result<Option<PatternStart>, Damaged>
         requires safe { IsSafe self.now }
         requires same { HasBytes self.now classes.now }
         requires limit { IsLimit self.now limit }
@@ -542,19 +543,19 @@ impl<'t> Backward<'t> {
         ensures first { ForBackward self.now (λ tables. (end upto : ℕ) → part.end < end
             → IsStep tables haystack.now span end part.end code
             → NoneFrom tables haystack.now span.end (part.end + 1) upto
-            → IsOkAnd result (IsFirstBegun tables haystack.now span.end (between part.start upto))) }
+            → IsOkAnd result (IsFirstStart tables haystack.now span.end (between part.start upto))) }
         ensures inside { IfOk result (LiesInPart part.start (part.end + 1)) }
         ensures others { tally.new ≡ record tally.old { scanned = tally.new.scanned } }
         ensures most { tally.new.scanned + part.start ≤ tally.old.scanned + part.end }
         ensures all { IfOk result (λ _. tally.new.scanned + part.start ≡ tally.old.scanned + part.end) }
     {
         let mut behind = None;
-        let place = self.go_on(code as u32, part.end, limit, &mut behind)?;
-        self.first_in(classes, haystack, span, part, place, behind, limit, tally)
+        let row = self.go_on(code as u32, part.end, limit, &mut behind)?;
+        self.first_in(classes, haystack, span, part, row, behind, limit, tally)
     }
 
-    /// The first place of a block at which a pattern begins, by four walks at once, and where these find something by
-    /// one after another.
+    /// The first offset in a block at which a pattern begins, by four walks at once. If these find one, each is
+    /// continued alone.
     fn first_in_four(
         &self,
         classes: &[u8; 256],
@@ -564,7 +565,7 @@ impl<'t> Backward<'t> {
         block: Block,
         limit: usize,
         tally: &mut Tally,
-    ) -> Result<Option<Begun>, Damaged>
+    ) -> Result<Option<PatternStart>, Damaged>
         requires safe { IsSafe self.now }
         requires same { HasBytes self.now classes.now }
         requires limit { IsLimit self.now limit }
@@ -572,7 +573,7 @@ impl<'t> Backward<'t> {
         requires after { span.start ≤ at }
         requires parts { IsFourParts self.now.table.longest span at block }
         ensures first { ForBackward self.now (λ tables. IsOkAnd result
-            (IsFirstBegun tables haystack.now span.end (between at block.end))) }
+            (IsFirstStart tables haystack.now span.end (between at block.end))) }
         ensures inside { IfOk result (LiesInPart at block.end) }
         ensures others { tally.new ≡ record tally.old { scanned = tally.new.scanned } }
         ensures most { tally.new.scanned ≤ tally.old.scanned + 8 * block.part + 4 * block.lead }
@@ -599,8 +600,8 @@ impl<'t> Backward<'t> {
         }
     }
 
-    /// A block of the rest of a span from a place on, of parts that are so long, or of the whole rest if that is not
-    /// much longer; and none where the rest is short. The bytes that are owed are paid by it.
+    /// A block of the rest of a span from an offset on. Its parts have the given length, or it is the whole rest if
+    /// that is not much longer. There is none if the rest is short. The block is long enough to pay for the owed bytes.
     fn four_parts_at(&self, span: Span, at: usize, part: usize, owed: usize) -> Option<Block>
         requires inside { at ≤ span.end }
         requires some { FIRST ≤ part }
@@ -614,6 +615,7 @@ impl<'t> Backward<'t> {
     {
         let lead = self.table.longest.saturating_sub(1);
         let rest = (span.end - at).saturating_sub(lead);
+        // (if less than two blocks are left, one block goes to the end of the span)
         if rest / 8 >= part {
             let end = at + 4 * part;
             return Some(Block { part, lead, end });
@@ -630,115 +632,115 @@ impl<'t> Backward<'t> {
         Some(Block { part, lead, end })
     }
 
-    /// How far a search is that passes on by a scan for candidates.
+    /// The progress of a search after a pass by the scan for candidates.
     #[inline(always)]
     pub(crate) fn pass_on(
         &self,
         scan: &Option<CandidateScan>,
         haystack: &[u8],
         span: Span,
-        front: Front,
+        progress: Progress,
         tally: &mut Tally,
-    ) -> Front
+    ) -> Progress
         requires valid { IsValidSpan haystack.now span }
         requires for_patterns { AreFor self.now scan.now }
-        requires after { span.start ≤ front.at }
-        requires inside { front.at ≤ span.end }
-        ensures none { ForBackward self.now (λ tables. NoneFrom tables haystack.now span.end front.at result.at) }
-        ensures later { (front.at ≤ result.at) × (result.at ≤ span.end) }
-        ensures front { (base : ℕ) → IsFront self.now span 0 base tally.old.scanned front
-            → IsFront self.now span (owed_by scan.now) base tally.new.scanned result }
+        requires after { span.start ≤ progress.at }
+        requires inside { progress.at ≤ span.end }
+        ensures none { ForBackward self.now (λ tables. NoneFrom tables haystack.now span.end progress.at result.at) }
+        ensures later { (progress.at ≤ result.at) × (result.at ≤ span.end) }
+        ensures progress { (base : ℕ) → IsProgress self.now span 0 base tally.old.scanned progress
+            → IsProgress self.now span (owed_by scan.now) base tally.new.scanned result }
         ensures others { tally.new ≡ record tally.old { scanned = tally.new.scanned } }
     {
         let rest = Span {
-            start: front.at,
+            start: progress.at,
             end: span.end,
         };
         let at = self.pass_over(scan, haystack, rest, tally);
-        let passed = credited(scan, at - front.at);
-        let credit = MOST_CREDIT.min(front.credit.saturating_add(passed));
-        Front {
+        let passed = credited(scan, at - progress.at);
+        let credit = MOST_CREDIT.min(progress.credit.saturating_add(passed));
+        Progress {
             at,
             credit,
-            part: front.part,
+            part: progress.part,
         }
     }
 
-    /// What begins where a search has come: at that place alone, by one walk, if enough was passed over before it, or
-    /// else in the block, by four walks. If nothing does, the search goes on behind it.
+    /// Looks for a pattern where a search is: at that offset alone, by one walk, if enough was passed over before it;
+    /// otherwise in the block, by four walks. If it finds none, the search continues after it.
     #[inline(always)]
     fn look_on(
         &self,
         classes: &[u8; 256],
         haystack: &[u8],
         span: Span,
-        front: Front,
+        progress: Progress,
         block: Block,
         owed: usize,
         limit: usize,
         tally: &mut Tally,
-    ) -> Result<Looked, Damaged>
+    ) -> Result<StepResult, Damaged>
         requires safe { IsSafe self.now }
         requires same { HasBytes self.now classes.now }
         requires limit { IsLimit self.now limit }
         requires valid { IsValidSpan haystack.now span }
-        requires after { span.start ≤ front.at }
-        requires parts { IsFourParts self.now.table.longest span front.at block }
-        requires paid { IsPaid owed front.at block }
+        requires after { span.start ≤ progress.at }
+        requires parts { IsFourParts self.now.table.longest span progress.at block }
+        requires paid { IsPaid owed progress.at block }
         requires few { owed ≤ OVERLAP }
-        requires short { block.part ≤ 2 * front.part }
-        requires next { (block.end ≡ span.end) ⊎ (block.end ≡ front.at + 4 * front.part) }
+        requires short { block.part ≤ 2 * progress.part }
+        requires next { (block.end ≡ span.end) ⊎ (block.end ≡ progress.at + 4 * progress.part) }
         ensures first { ForBackward self.now (λ tables. IsOkAnd result (λ looked.
-            IsFirstBegun tables haystack.now span.end (between front.at looked.front.at) looked.first)) }
-        ensures inside { IfOk result (λ looked. LiesInPart front.at span.end looked.first) }
-        ensures later { IfOk result (λ looked. (front.at < looked.front.at) × (looked.front.at ≤ span.end)) }
-        ensures front { (base : ℕ) → IsFront self.now span owed base tally.old.scanned front
+            IsFirstStart tables haystack.now span.end (between progress.at looked.progress.at) looked.first)) }
+        ensures inside { IfOk result (λ looked. LiesInPart progress.at span.end looked.first) }
+        ensures later { IfOk result (λ looked. (progress.at < looked.progress.at) × (looked.progress.at ≤ span.end)) }
+        ensures progress { (base : ℕ) → IsProgress self.now span owed base tally.old.scanned progress
             → IfOk result (λ looked. IsNone looked.first
-            → IsFront self.now span 0 base tally.new.scanned looked.front) }
-        ensures found { (base : ℕ) → IsFront self.now span owed base tally.old.scanned front
+            → IsProgress self.now span 0 base tally.new.scanned looked.progress) }
+        ensures found { (base : ℕ) → IsProgress self.now span owed base tally.old.scanned progress
             → IfOk result (λ looked. IfSome looked.first
             (λ begun. ReadsFor self.now.table.longest span base tally.new.scanned (Some begun))) }
-        ensures most { (base : ℕ) → IsFront self.now span owed base tally.old.scanned front
+        ensures most { (base : ℕ) → IsProgress self.now span owed base tally.old.scanned progress
             → tally.new.scanned + 3 * span.start ≤ base + 3 * span.end }
         ensures others { tally.new ≡ record tally.old { scanned = tally.new.scanned } }
     {
         let price = PRICE.max(self.table.longest);
-        if price <= front.credit {
-            let first = self.begun_at(classes, haystack, span, front.at, limit, tally)?;
-            let front = Front {
-                at: front.at + 1,
-                credit: front.credit - price,
-                part: front.part,
+        if price <= progress.credit {
+            let first = self.begun_at(classes, haystack, span, progress.at, limit, tally)?;
+            let progress = Progress {
+                at: progress.at + 1,
+                credit: progress.credit - price,
+                part: progress.part,
             };
-            return Ok(Looked { first, front });
+            return Ok(StepResult { first, progress });
         }
-        let first = self.first_in_four(classes, haystack, span, front.at, block, limit, tally)?;
-        let part = if front.part < LAST {
-            2 * front.part
+        let first = self.first_in_four(classes, haystack, span, progress.at, block, limit, tally)?;
+        let part = if progress.part < LAST {
+            2 * progress.part
         } else {
-            front.part
+            progress.part
         };
-        let front = Front {
+        let progress = Progress {
             at: block.end,
-            credit: front.credit,
+            credit: progress.credit,
             part,
         };
-        Ok(Looked { first, front })
+        Ok(StepResult { first, progress })
     }
 
-    /// The first place of a span at which a pattern begins. A scan for candidates passes over bytes. Where it stops,
-    /// one walk looks at the place, if it passed over enough; else four walks go through a block, from its end. Each
-    /// block is twice as long as the one before it, up to a limit.
+    /// The first offset in a span at which a pattern begins. A scan for candidates passes over bytes. At a candidate,
+    /// one walk looks at this offset if the scan passed over enough; otherwise four walks go backward through a block.
+    /// Each block is twice as long as the previous one, up to a limit.
     pub(crate) fn first_begun(
         &self,
         haystack: &[u8],
         span: Span,
         tally: &mut Tally,
-    ) -> Result<Option<Begun>, Damaged>
+    ) -> Result<Option<PatternStart>, Damaged>
         requires safe { IsSafe self.now }
         requires valid { IsValidSpan haystack.now span }
         ensures first { ForBackward self.now (λ tables. IsOkAnd result
-            (IsFirstBegun tables haystack.now span.end span)) }
+            (IsFirstStart tables haystack.now span.end span)) }
         ensures lies { IfOk result (LiesInPart span.start span.end) }
         ensures others { tally.new ≡ record tally.old { scanned = tally.new.scanned } }
         ensures most { tally.new.scanned ≤ tally.old.scanned + 3 * (span.end - span.start) }
@@ -747,31 +749,33 @@ impl<'t> Backward<'t> {
     {
         let scan = &scan_in(self.prints);
         let owed = owed_by(scan);
-        let begin = Front {
+        let begin = Progress {
             at: span.start,
             credit: 0,
-            part: FIRST.max(self.table.longest / 2 + 3),
+            part: FIRST.max(self.table.longest / 2 + 3), // (so a lead is shorter than two parts)
         };
-        let front = self.pass_on(scan, haystack, span, begin, tally);
-        if front.at == span.end {
+        let progress = self.pass_on(scan, haystack, span, begin, tally);
+        if progress.at == span.end {
             return Ok(None);
         }
         let (limit, bytes) = (self.table.limit()?, self.table.class_bytes());
         let classes = &bytes;
-        let near = self.look_first(scan, classes, haystack, span, front, limit, tally)?;
+        let near = self.look_first(scan, classes, haystack, span, progress, limit, tally)?;
         if let Some(begun) = near.first {
             return Ok(Some(begun));
         }
-        let mut front = near.front;
-        while let Some(block) = self.four_parts_at(span, front.at, front.part, owed) {
-            let looked = self.look_on(classes, haystack, span, front, block, owed, limit, tally)?;
+        let mut progress = near.progress;
+        while let Some(block) = self.four_parts_at(span, progress.at, progress.part, owed) {
+            let looked = self.look_on(
+                classes, haystack, span, progress, block, owed, limit, tally,
+            )?;
             if looked.first.is_some() {
                 return Ok(looked.first);
             }
-            front = self.pass_on(scan, haystack, span, looked.front, tally);
+            progress = self.pass_on(scan, haystack, span, looked.progress, tally);
         }
         let rest = Span {
-            start: front.at,
+            start: progress.at,
             end: span.end,
         };
         self.first_in(classes, haystack, span, rest, 0, None, limit, tally)

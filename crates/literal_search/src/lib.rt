@@ -1,5 +1,5 @@
-//! One search for any list of literals, however many, with ASCII case kept or ignored: [`Search`] finds the leftmost
-//! match, or all of them, by both kinds of match, and [`Overlapping`] everything that occurs.
+//! Search for any number of literals at once, with ASCII case kept or ignored. [`Search`] finds the leftmost match, or
+//! all matches that do not overlap. [`Overlapping`] finds every occurrence.
 #![tactic(auto)]
 
 ghost use Rattle.std.specs.Prelude.{◌≡◌, ◌+◌, ◌-◌, ◌^◌, ◌<◌, ◌++◌, ◌∷◌, [], length, map, sum_by, IfErr, IfOk};
@@ -11,6 +11,7 @@ mod automaton;
 mod backward;
 mod builder;
 mod classes;
+mod count;
 mod ends;
 mod grow;
 pub mod laws;
@@ -19,6 +20,7 @@ mod near;
 mod numbers;
 mod overlapping;
 mod patterns;
+mod position;
 mod prepared;
 mod prepared_overlapping;
 mod prepared_search;
@@ -30,7 +32,6 @@ mod replace_stream;
 mod scan;
 mod search;
 mod shadowed;
-mod standing;
 mod stream;
 mod suffixes;
 mod walk;
@@ -61,21 +62,21 @@ use std::fmt;
 pub use stream::{SoFar, StreamMatches};
 pub use whole_words::{WholeWordMatches, WholeWords};
 
-/// Why there is no automaton for some patterns.
+/// Why no search is built for some patterns.
 #[derive(Clone, Copy, Debug, PartialEq, Eq, Drop)]
 pub enum BuildError {
-    /// The pattern of this number is empty, and none before it.
+    /// The pattern with this number is empty; the patterns before it are not.
     EmptyPattern(usize),
     /// Memory was refused.
     OutOfMemory,
     /// There are more patterns than [`PatternID::LIMIT`].
     TooManyPatterns,
-    /// The rows of all states would be longer than the numbers in them reach. It comes only there, and memory may be
-    /// refused before that is found.
+    /// The rows of all states are longer than their numbers can index. Only then is this the error; memory may be
+    /// refused before this is found.
     TooManyStates,
 }
 
-/// What is wrong, in a few words.
+/// A short message.
 impl fmt::Display for BuildError {
     ghost use Rattle.std.specs.Prelude.{Some};
     ghost use Rattle.literal_search.specs.ErrorText.{build_error_text};
@@ -106,7 +107,7 @@ impl From<AllocError> for BuildError {
     }
 }
 
-/// The error of the same name.
+/// The error with the same name.
 impl From<GrowError> for BuildError {
     ghost use Rattle.literal_search.specs.Inside.Search.{IsErrorOf};
 
@@ -120,7 +121,7 @@ impl From<GrowError> for BuildError {
     }
 }
 
-/// Copies of the patterns that an iterator gives.
+/// Copies the patterns that an iterator gives.
 fn copies<'a, I: IntoIterator<Item = &'a [u8]>>(
     alloc: Global,
     patterns: I,
@@ -143,7 +144,7 @@ fn copies<'a, I: IntoIterator<Item = &'a [u8]>>(
     Ok(all)
 }
 
-/// How long the longest of some patterns is, and 0 where there is none.
+/// The length of the longest pattern, or 0 if there is none.
 fn longest_len(patterns: &[Vec<u8>]) -> usize
     ensures { result ≡ longest_of (map (λ pattern. pattern.items) patterns.now) }
 {
@@ -154,7 +155,7 @@ fn longest_len(patterns: &[Vec<u8>]) -> usize
     longest
 }
 
-/// As long as the shortest of some patterns is, and a large number where there is none.
+/// The length of the shortest pattern, or a large number if there is none.
 fn shortest_len(patterns: &[Vec<u8>]) -> usize
     ensures { IsShortestOf result (map (λ pattern. pattern.items) patterns.now) }
 {
@@ -165,7 +166,7 @@ fn shortest_len(patterns: &[Vec<u8>]) -> usize
     shortest
 }
 
-/// How many bytes some patterns have together.
+/// The sum of the lengths of all patterns.
 fn total_bytes(patterns: &[Vec<u8>]) -> u128
     ensures total { result ≡ sum_by length (map (λ pattern. pattern.items) patterns.now) }
     ensures small { result < 2 ^ 127 }
@@ -177,7 +178,7 @@ fn total_bytes(patterns: &[Vec<u8>]) -> u128
     total
 }
 
-/// Adds a copy of a pattern. Without memory the list stays as it was.
+/// Adds a copy of a pattern. If memory is refused, the list is unchanged.
 fn push_copy(alloc: Global, lists: &mut Vec<Vec<u8>>, bytes: &[u8]) -> Result<(), AllocError>
     ensures { IfOk result (λ _. map (λ pattern. pattern.items) lists.new.items
         ≡ map (λ pattern. pattern.items) lists.old.items ++ bytes.now ∷ []) }

@@ -8,19 +8,21 @@ ghost use Rattle.literal_base.specs.Leftmost.{IsLeftmost};
 ghost use Rattle.literal_base.specs.Occurs.{IsValidSpan, between};
 ghost use Rattle.literal_search.specs.At.{IsMatchIn};
 ghost use Rattle.literal_search.specs.Inside.Backward.{ForBackward, IsMatchBy, IsSafe};
-ghost use Rattle.literal_search.specs.Inside.Leftmost.{AreFor, HasBytes, IsFirstBegun, IsFront, IsLimit, LiesInPart};
+ghost use Rattle.literal_search.specs.Inside.Leftmost.{AreFor, HasBytes, IsFirstStart, IsLimit, IsProgress, LiesInPart};
 ghost use Rattle.literal_search.specs.Inside.Leftmost.{ReadsFor, owed_by};
-ghost use Rattle.literal_search.specs.Inside.Near.{IsGap, IsNear, IsPiece, ReadsNear};
+ghost use Rattle.literal_search.specs.Inside.Near.{IsFirstLook, IsGap, IsPiece, ReadsFirstLook};
 ghost use Rattle.literal_search.specs.SearchValue.{LooksFor};
 
 use crate::backward::Backward;
 use crate::classes::CLASSES_LEN;
-use crate::leftmost::{FIRST, Front, Looked, PRICE};
+use crate::leftmost::{FIRST, PRICE, Progress, StepResult};
 use crate::prepared::Damaged;
 use crate::walk::class_by;
 use literal_base::count::Tally;
 use literal_base::{Match, Span};
 use literal_fingerprints::CandidateScan;
+
+// No answer depends on these constants, only the time.
 
 /// The least length of a piece, in bytes, except at the end of the span.
 const PIECE: usize = 10;
@@ -40,7 +42,7 @@ const FEW_STATES_TO_SCAN: usize = 15;
 /// A piece of a span.
 #[derive(Clone, Copy)]
 pub struct Piece {
-    /// Where it ends.
+    /// Its end.
     pub end: usize,
     /// An occurrence that begins in the piece, and lies in the span, ends at this offset or before it.
     pub reach: usize,
@@ -48,7 +50,7 @@ pub struct Piece {
 
 /// The answer of a search by pieces.
 #[derive(Clone, Copy)]
-pub struct Near {
+pub struct FirstLook {
     pub found: Option<Match>,
     /// If nothing was found: no occurrence begins before this offset.
     pub at: usize,
@@ -118,6 +120,7 @@ impl<'t> Backward<'t> {
         let lead = self.table.longest.saturating_sub(1);
         let part = FIRST.max(self.table.longest / 2 + 3) + MORE;
         let start = at + PIECE.min(span.end - at);
+        // (if there is no gap, what is read for it, the lead and the piece are at most three times the piece)
         let most = lead.min(part.saturating_mul(2).saturating_sub(lead));
         let end = start + most.min(span.end - start);
         match self.gap_in(classes, haystack, Span { start, end }, tally) {
@@ -138,7 +141,7 @@ impl<'t> Backward<'t> {
         at: usize,
         limit: usize,
         tally: &mut Tally,
-    ) -> Result<Near, Damaged>
+    ) -> Result<FirstLook, Damaged>
         requires safe { IsSafe self.now }
         requires same { HasBytes self.now classes.now }
         requires limit { IsLimit self.now limit }
@@ -147,12 +150,12 @@ impl<'t> Backward<'t> {
         requires after { span.start ≤ at }
         requires before { at < span.end }
         ensures found { ForBackward self.now (λ tables. IsOkAnd result
-            (IsNear tables haystack.now (between at span.end))) }
+            (IsFirstLook tables haystack.now (between at span.end))) }
         ensures lies { IfOk result (λ near. IfSome near.found (IsMatchBy self.now span at)) }
         ensures inside { IfOk result (λ near. (at < near.at) × (near.at ≤ span.end)) }
         ensures others { tally.new ≡ record tally.old { scanned = tally.new.scanned } }
         ensures most { tally.new.scanned + 3 * at ≤ tally.old.scanned + 3 * span.end }
-        ensures counted { IfOk result (ReadsNear self.now.table.longest (between at span.end) tally.old.scanned
+        ensures counted { IfOk result (ReadsFirstLook self.now.table.longest (between at span.end) tally.old.scanned
             tally.new.scanned) }
     {
         let Piece { end, reach } = self.piece_at(classes, haystack, span, at, tally);
@@ -162,13 +165,13 @@ impl<'t> Backward<'t> {
         };
         let part = Span { start: at, end };
         let Some(begun) = self.begun_in(classes, haystack, span, part, limit, tally)? else {
-            return Ok(Near {
+            return Ok(FirstLook {
                 found: None,
                 at: end,
             });
         };
         let found = self.match_at(haystack, span, begun.at, begun.code)?;
-        Ok(Near {
+        Ok(FirstLook {
             found: Some(found),
             at: end,
         })
@@ -181,17 +184,17 @@ impl<'t> Backward<'t> {
         haystack: &[u8],
         span: Span,
         tally: &mut Tally,
-    ) -> Result<Near, Damaged>
+    ) -> Result<FirstLook, Damaged>
         requires safe { IsSafe self.now }
         requires few { self.now.table.width < 256 }
         requires valid { IsValidSpan haystack.now span }
-        ensures found { ForBackward self.now (λ tables. IsOkAnd result (IsNear tables haystack.now span)) }
+        ensures found { ForBackward self.now (λ tables. IsOkAnd result (IsFirstLook tables haystack.now span)) }
         ensures lies { IfOk result (λ near. IfSome near.found (IsMatchBy self.now span span.start)) }
         ensures inside { IfOk result (λ near. (span.start ≤ near.at) × (near.at ≤ span.end)) }
         ensures others { tally.new ≡ record tally.old { scanned = tally.new.scanned } }
         ensures most { tally.new.scanned ≤ tally.old.scanned + 3 * (span.end - span.start) }
         ensures counted { IfOk result
-            (ReadsNear self.now.table.longest span tally.old.scanned tally.new.scanned) }
+            (ReadsFirstLook self.now.table.longest span tally.old.scanned tally.new.scanned) }
     {
         let (limit, bytes) = (self.table.limit()?, self.table.class_bytes());
         let classes = &bytes;
@@ -204,26 +207,31 @@ impl<'t> Backward<'t> {
             }
             at = near.at;
         }
-        Ok(Near { found: None, at })
+        Ok(FirstLook { found: None, at })
     }
 
-    /// The same, if patterns are likely to begin at many places; else nothing is looked at.
+    /// The same if patterns are likely to begin at many offsets; otherwise it looks at nothing.
     #[inline(always)]
-    fn find_near(&self, haystack: &[u8], span: Span, tally: &mut Tally) -> Result<Near, Damaged>
+    fn find_near(
+        &self,
+        haystack: &[u8],
+        span: Span,
+        tally: &mut Tally,
+    ) -> Result<FirstLook, Damaged>
         requires safe { IsSafe self.now }
         requires valid { IsValidSpan haystack.now span }
-        ensures found { ForBackward self.now (λ tables. IsOkAnd result (IsNear tables haystack.now span)) }
+        ensures found { ForBackward self.now (λ tables. IsOkAnd result (IsFirstLook tables haystack.now span)) }
         ensures lies { IfOk result (λ near. IfSome near.found (IsMatchBy self.now span span.start)) }
         ensures inside { IfOk result (λ near. (span.start ≤ near.at) × (near.at ≤ span.end)) }
         ensures others { tally.new ≡ record tally.old { scanned = tally.new.scanned } }
         ensures most { tally.new.scanned ≤ tally.old.scanned + 3 * (span.end - span.start) }
         ensures counted { IfOk result
-            (ReadsNear self.now.table.longest span tally.old.scanned tally.new.scanned) }
+            (ReadsFirstLook self.now.table.longest span tally.old.scanned tally.new.scanned) }
     {
         if self.prints[0] == 0 && self.has_few_states(FEW_STATES) {
             return self.find_by_pieces(haystack, span, tally);
         }
-        Ok(Near {
+        Ok(FirstLook {
             found: None,
             at: span.start,
         })
@@ -238,45 +246,54 @@ impl<'t> Backward<'t> {
         classes: &[u8; 256],
         haystack: &[u8],
         span: Span,
-        front: Front,
+        progress: Progress,
         limit: usize,
         tally: &mut Tally,
-    ) -> Result<Looked, Damaged>
+    ) -> Result<StepResult, Damaged>
         requires safe { IsSafe self.now }
         requires same { HasBytes self.now classes.now }
         requires limit { IsLimit self.now limit }
         requires valid { IsValidSpan haystack.now span }
-        requires after { span.start ≤ front.at }
-        requires inside { front.at ≤ span.end }
+        requires after { span.start ≤ progress.at }
+        requires inside { progress.at ≤ span.end }
         requires for_patterns { AreFor self.now scan.now }
         ensures first { ForBackward self.now (λ tables. IsOkAnd result (λ looked.
-            IsFirstBegun tables haystack.now span.end (between front.at looked.front.at) looked.first)) }
-        ensures inside { IfOk result (λ looked. LiesInPart front.at span.end looked.first) }
-        ensures later { IfOk result (λ looked. (front.at ≤ looked.front.at) × (looked.front.at ≤ span.end)) }
-        ensures front { (base : ℕ) → IsFront self.now span (owed_by scan.now) base tally.old.scanned front
+            IsFirstStart tables haystack.now span.end (between progress.at looked.progress.at) looked.first)) }
+        ensures inside { IfOk result (λ looked. LiesInPart progress.at span.end looked.first) }
+        ensures later { IfOk result (λ looked. (progress.at ≤ looked.progress.at) × (looked.progress.at ≤ span.end)) }
+        ensures progress { (base : ℕ) → IsProgress self.now span (owed_by scan.now) base tally.old.scanned progress
             → IfOk result (λ looked. IsNone looked.first
-            → IsFront self.now span (owed_by scan.now) base tally.new.scanned looked.front) }
-        ensures found { (base : ℕ) → IsFront self.now span (owed_by scan.now) base tally.old.scanned front
+            → IsProgress self.now span (owed_by scan.now) base tally.new.scanned looked.progress) }
+        ensures found { (base : ℕ) → IsProgress self.now span (owed_by scan.now) base tally.old.scanned progress
             → IfOk result (λ looked. IfSome looked.first
             (λ begun. ReadsFor self.now.table.longest span base tally.new.scanned (Some begun))) }
-        ensures most { (base : ℕ) → IsFront self.now span (owed_by scan.now) base tally.old.scanned front
+        ensures most { (base : ℕ) → IsProgress self.now span (owed_by scan.now) base tally.old.scanned progress
             → tally.new.scanned + 3 * span.start ≤ base + 3 * span.end }
         ensures others { tally.new ≡ record tally.old { scanned = tally.new.scanned } }
     {
-        if scan.is_none() || front.credit >= PRICE || !self.has_few_states(FEW_STATES_TO_SCAN) {
-            return Ok(Looked { first: None, front });
+        if scan.is_none() || progress.credit >= PRICE || !self.has_few_states(FEW_STATES_TO_SCAN) {
+            return Ok(StepResult {
+                first: None,
+                progress,
+            });
         }
         let len = self.table.longest / 2 + PIECE;
-        let start = front.at;
+        let start = progress.at;
         let end = start + len.min(span.end - start);
         let part = Span { start, end };
-        let front = Front { at: end, ..front };
+        let progress = Progress {
+            at: end,
+            ..progress
+        };
         if let Some(begun) = self.begun_in(classes, haystack, span, part, limit, tally)? {
             let first = Some(begun);
-            return Ok(Looked { first, front });
+            return Ok(StepResult { first, progress });
         }
-        let front = self.pass_on(scan, haystack, span, front, tally);
-        Ok(Looked { first: None, front })
+        let progress = self.pass_on(scan, haystack, span, progress, tally);
+        Ok(StepResult {
+            first: None,
+            progress,
+        })
     }
 
     /// The leftmost match of a span.
@@ -296,6 +313,9 @@ impl<'t> Backward<'t> {
         ensures counted { IfOk result (λ answer.
             LooksFor self.now.table.longest span answer tally.old.scanned tally.new.scanned) }
     {
+        if span.start == span.end {
+            return Ok(None);
+        }
         let near = self.find_near(haystack, span, tally)?;
         if near.found.is_some() {
             return Ok(near.found);
@@ -311,7 +331,7 @@ impl<'t> Backward<'t> {
         Ok(Some(found))
     }
 
-    /// The match that begins where a span does, by one walk from so far behind it that all that begins there is read.
+    /// The match at the start of a span, by one walk, which begins far enough after the start for the longest pattern.
     pub fn find_at(
         &self,
         haystack: &[u8],

@@ -16,9 +16,9 @@ use std::marker::Model;
 /// The numbers of a search, as `prepare` writes them. Contracts see them.
 #[derive(Drop)]
 pub struct Numbers {
-    /// Empty where there is no pattern.
+    /// Empty if there is no pattern.
     kept: Vec<u32>,
-    /// Whether lists stand behind the rows, for everything that occurs.
+    /// Whether lists follow the rows, for every occurrence.
     listed: bool,
 }
 
@@ -32,7 +32,7 @@ impl Model for Numbers {
 }
 
 impl Numbers {
-    /// The numbers for no pattern, which take no memory.
+    /// The numbers for no pattern. They take no memory.
     pub fn for_none(alloc: Global, listed: bool) -> Numbers
         ensures { result ≡ numbers_kept listed [] }
     {
@@ -40,7 +40,7 @@ impl Numbers {
         Numbers { kept, listed }
     }
 
-    /// The numbers of a search of a version, as [`assemble`] makes them.
+    /// The numbers of a search of this version, as [`assemble`] puts them together.
     pub fn assembled(
         alloc: Global,
         version: u32,
@@ -78,7 +78,7 @@ impl Numbers {
         &self.kept
     }
 
-    /// Writes them into the first places of an array, and answers how many they are.
+    /// Writes the numbers into the first entries of an array, and returns how many they are.
     pub fn put(&self, array: &mut [u32]) -> Result<usize, ArrayTooShort>
         ensures { IsPut self.now array.old array.new result }
     {
@@ -91,7 +91,7 @@ impl Numbers {
         Ok(needed)
     }
 
-    /// A copy, for the same patterns, without lists. Memory is asked for only where there is a pattern.
+    /// A copy, for the same patterns, without lists. Allocates only if there is a pattern.
     pub fn copy(&self, alloc: Global, patterns: &[Vec<u8>]) -> Result<Numbers, AllocError>
         ensures some { 0 < length patterns.now → IfOk result (λ copy. copy ≡ self.now) }
         ensures none { length patterns.now ≡ 0 → IfOk result (λ copy. copy ≡ numbers_kept false []) }
@@ -107,7 +107,7 @@ impl Numbers {
     }
 }
 
-/// The numbers of the scan for patterns.
+/// The numbers of the scan for candidates of these patterns.
 pub fn prints_for(ignore_case: bool, patterns: &[Vec<u8>]) -> [u32; SCAN_LEN]
     ensures { ArePrints (map (λ pattern. pattern.items) patterns.now) ignore_case result }
 {

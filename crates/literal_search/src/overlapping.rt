@@ -1,6 +1,6 @@
-//! A search for everything that occurs.
+//! The search for every occurrence.
 ghost use Rattle.std.specs.Prelude.{◌≡◌, ◌+◌, ◌-◌, ◌<◌, ◌≤◌, ◌^◌, ◌++◌, ◌∷◌, [], ℕ, length, map, slice_index};
-ghost use Rattle.std.specs.Prelude.{◌↔◌, IfErr, IfOk, IsTrue, MatchOption, OnErr};
+ghost use Rattle.std.specs.Prelude.{◌↔◌, IfErr, IfOk, IsTrue, MatchOption, None, OnErr};
 ghost use Rattle.std.specs.List.{repeat};
 ghost use Rattle.std.specs.Option.{option_map};
 ghost use Rattle.literal_base.specs.Occurs.{IsValidSpan, Occurs, between, one_occurs, pattern_at, whole_of};
@@ -9,7 +9,7 @@ ghost use Rattle.literal_search.specs.SearchValue.{CanBeKept, NeedFewStates, Nee
 ghost use Rattle.literal_search.specs.SearchValue.{longest_of};
 ghost use Rattle.literal_search.specs.Earliest.{IsEarliestEnd, ScansToEndWithin};
 ghost use Rattle.literal_search.specs.Memory.{TakesListedBytes};
-ghost use Rattle.literal_search.specs.Overlapping.{BuildsOverlapping};
+ghost use Rattle.literal_search.specs.Overlapping.{BuildsOverlapping, IsOverlappingCount};
 ghost use Rattle.literal_search.specs.OverlappingMatchesValue.{GivesOverlapping, most_overlapping};
 ghost use Rattle.literal_search.specs.Prepared.{AreShort};
 ghost use Rattle.literal_search.specs.PreparedOverlapping.{RefusesOverlapping, TakesListedPlaces, WritesOverlapping};
@@ -22,9 +22,9 @@ use crate::classes::classes_for;
 use crate::grow::{GrowError, grow};
 use crate::numbers::{Numbers, prints_for};
 use crate::patterns::Patterns;
+use crate::position::Position;
 use crate::prepared::{ArrayTooShort, OVERLAPPING_VERSION};
 use crate::prepared_overlapping::{LentTables, lent_in};
-use crate::standing::Standing;
 use crate::suffixes::Recognised;
 use crate::{BuildError, copies, shortest_len, total_bytes};
 use literal_base::count::Tally;
@@ -34,11 +34,11 @@ use std::alloc::{AllocError, Global};
 use std::fmt;
 use std::marker::Model;
 
-/// Searches for every occurrence of any number of patterns: those that overlap others, and those that stand within
-/// others, too. Contracts see the patterns, and whether ASCII case is ignored.
+/// Searches for every occurrence of any number of patterns, also of those that overlap or lie within others. Contracts
+/// see the patterns, and whether ASCII case is ignored.
 ///
-/// An iteration looks up at most three times as many bytes as there are ([`OverlappingMatches::next_counted`]). The
-/// search has the states of an automaton, and for each pattern the list of those that are a suffix of it.
+/// An iteration looks up at most three times the bytes of the haystack ([`OverlappingMatches::next_counted`]). The
+/// search has the states of an automaton, and for each pattern the list of the patterns that are suffixes of it.
 ///
 /// ```rust
 /// let search = Overlapping::new(alloc, false, [b"append".as_slice(), b"app", b"end"])?;
@@ -51,7 +51,7 @@ pub struct Overlapping {
     parts: Parts,
 }
 
-/// What a search and its iterations read.
+/// The data of a search.
 #[derive(Drop)]
 pub struct Parts {
     ignore_case: bool,
@@ -71,10 +71,10 @@ impl Model for Overlapping {
 }
 
 impl Overlapping {
-    /// The search for the patterns that the iterator gives, with ASCII case ignored or not. The iterator has to end.
-    /// There may be no pattern: then nothing is found, and no memory is asked for. Else it is asked for only for a
-    /// pattern that is kept, and behind the last of them. Lists of the patterns that are a suffix of another, of 2^32
-    /// numbers or more, are refused as [`BuildError::OutOfMemory`].
+    /// Builds a search for the patterns that an iterator gives, with ASCII case ignored or kept. The iterator has to
+    /// end. The list may be empty: such a search finds nothing and allocates nothing. Otherwise it allocates only for a
+    /// pattern that is kept, and after the last one. [`BuildError`] lists the errors. If the lists of suffixes would
+    /// have 2^32 numbers or more, it is [`BuildError::OutOfMemory`].
     pub fn new<'a, I: IntoIterator<Item = &'a [u8]>>(
         alloc: Global,
         ignore_case: bool,
@@ -97,7 +97,7 @@ impl Overlapping {
         Ok(Overlapping { parts })
     }
 
-    /// Every occurrence in the haystack: [`Overlapping::find_overlapping_in`] of all of it.
+    /// Returns an iterator over every occurrence in the whole haystack ([`Overlapping::find_overlapping_in`]).
     pub fn find_overlapping_iter<'s, 'h>(&'s self, haystack: &'h [u8]) -> OverlappingMatches<'s, 'h>
         ensures { result ≡ record {
           search = self.now;
@@ -111,10 +111,10 @@ impl Overlapping {
         self.find_overlapping_in(haystack, Span { start: 0, end })
     }
 
-    /// Every occurrence of every pattern that lies whole in a span of the haystack, in the order of ends and, at one
-    /// end, of identifiers. Offsets, in the matches too, are in bytes of the whole haystack. The span has to be
-    /// valid: its `start` at most its `end`, and that at most the haystack's length. The iterator borrows the
-    /// haystack, and ends with the first `None`.
+    /// Returns an iterator over every occurrence that lies whole in a span of the haystack, in the order of their ends
+    /// and, at one end, of the pattern numbers. All offsets are in bytes of the whole haystack. The span has to be
+    /// valid: `start` is at most `end`, and `end` at most the haystack's length. The iterator borrows the haystack. It
+    /// ends with its first `None`.
     pub fn find_overlapping_in<'s, 'h>(
         &'s self,
         haystack: &'h [u8],
@@ -130,19 +130,19 @@ impl Overlapping {
         } }
     {
         let lent = self.parts.lent();
-        let standing = lent.before_all(haystack, span);
+        let position = lent.before_all(haystack, span);
         OverlappingMatches {
             parts: &self.parts,
             lent,
             haystack,
             span,
-            standing,
+            position,
         }
     }
 
-    /// The earliest end of an occurrence that lies whole in a span of the haystack, an offset in bytes of the whole
-    /// haystack, and `None` where nothing occurs in the span. It is known sooner than the leftmost match, and may be
-    /// the end of another one. The span has to be valid.
+    /// Returns the earliest end of an occurrence that lies whole in a span, as an offset in the whole haystack, or
+    /// `None` if nothing occurs in the span. It is known sooner than the leftmost match, and may be the end of another
+    /// match. The span has to be valid.
     pub fn earliest_end(&self, haystack: &[u8], span: Span) -> Option<usize>
         requires { IsValidSpan haystack.now span }
         ensures { IsEarliestEnd self.now.patterns self.now.ignore_case haystack.now span result }
@@ -150,8 +150,8 @@ impl Overlapping {
         self.earliest_end_counted(haystack, span, &mut Tally::new())
     }
 
-    /// Answers as [`Overlapping::earliest_end`], and adds each byte that it looks up to a tally, as scanned: at least
-    /// as many as there are up to that end, or in the span where nothing ends, and at most three times as many.
+    /// Like [`Overlapping::earliest_end`], and counts each looked-up byte in the tally, as scanned: at least the bytes
+    /// up to that end, or those of the span if nothing occurs, and at most three times as many.
     pub fn earliest_end_counted(
         &self,
         haystack: &[u8],
@@ -168,7 +168,34 @@ impl Overlapping {
         }
     }
 
-    /// Whether a pattern occurs in the haystack.
+    /// Returns the number of all occurrences that lie whole in a span, that is of the matches that
+    /// [`Overlapping::find_overlapping_in`] gives. It is faster than they are. The span has to be valid.
+    ///
+    /// ```rust
+    /// let search = Overlapping::new(alloc, false, [b"append".as_slice(), b"app", b"end"])?;
+    /// assert!(rt; search.count_overlapping_in(b"append", Span { start: 0, end: 6 }) == 3);
+    /// ```
+    pub fn count_overlapping_in(&self, haystack: &[u8], span: Span) -> u128
+        requires { IsValidSpan haystack.now span }
+        ensures { IsOverlappingCount self.now.patterns self.now.ignore_case haystack.now span result }
+    {
+        self.count_overlapping_counted(haystack, span, &mut Tally::new())
+    }
+
+    /// Like [`Overlapping::count_overlapping_in`], and counts each looked-up byte in the tally, as scanned: at least
+    /// the bytes of the span, and at most three times as many.
+    pub fn count_overlapping_counted(&self, haystack: &[u8], span: Span, tally: &mut Tally) -> u128
+        requires { IsValidSpan haystack.now span }
+        ensures count { IsOverlappingCount self.now.patterns self.now.ignore_case haystack.now span result }
+        ensures bounded { ScansToEndWithin span None tally.old tally.new }
+    {
+        match self.parts.lent().count_in(haystack, span, tally) {
+            Ok(count) => count,
+            Err(_) => unreachable!(),
+        }
+    }
+
+    /// Returns whether a pattern occurs in the haystack.
     pub fn is_match(&self, haystack: &[u8]) -> bool
         ensures occurs { IsTrue result ↔ ((i : ℕ) × (at : ℕ)
             × Occurs self.now.patterns self.now.ignore_case haystack.now (whole_of haystack.now) i at) }
@@ -179,8 +206,8 @@ impl Overlapping {
             .is_some()
     }
 
-    /// Writes the numbers of the search into the first places of an array, and answers how many these are.
-    /// [`PreparedOverlapping`](crate::PreparedOverlapping) searches by them. After an error the array is unchanged.
+    /// Writes the search into the first entries of an array, for [`PreparedOverlapping`](crate::PreparedOverlapping),
+    /// and returns their number. If the array is too short, it is unchanged.
     pub fn prepare(&self, array: &mut [u32]) -> Result<usize, ArrayTooShort>
         ensures ok { IfOk result (WritesOverlapping self.now array.old array.new) }
         ensures error { IfErr result (RefusesOverlapping self.now array.old) }
@@ -189,7 +216,7 @@ impl Overlapping {
         self.parts.numbers.put(array)
     }
 
-    /// How many places [`Overlapping::prepare`] writes: an array of as many, or more, is long enough for it.
+    /// Returns how many entries [`Overlapping::prepare`] writes. An array of this length or longer is long enough.
     #[tactic(auto, using(crate::proofs::lemmas::LentTables::takes_listed))]
     pub fn prepared_len(&self) -> usize
         ensures { TakesListedPlaces self.now result }
@@ -197,8 +224,8 @@ impl Overlapping {
         self.parts.numbers.as_slice().len()
     }
 
-    /// How many bytes its numbers and its patterns take: 4 for each place that [`Overlapping::prepare`] writes, and one
-    /// for each byte of a pattern. It leaves out what the allocator rounds up, and where each pattern lies.
+    /// Returns how many bytes the search takes: 4 for each entry that [`Overlapping::prepare`] writes, and one for each
+    /// byte of a pattern. Rounding by the allocator, and the list of where each pattern is, are not counted.
     pub fn memory_usage(&self) -> u128
         ensures { TakesListedBytes self.now result }
     {
@@ -206,14 +233,14 @@ impl Overlapping {
         numbers.len() as u128 * 4 + total_bytes(&self.parts.patterns)
     }
 
-    /// The automaton of the patterns, for loops of a caller's own.
+    /// Returns the automaton of the patterns, for a caller's own loops.
     pub fn automaton(&self) -> Automaton<'_>
         ensures { overlapping_value result ≡ self.now }
     {
         automaton_of(&self.parts)
     }
 
-    /// How many patterns there are, none of them empty.
+    /// Returns the number of patterns. None of them is empty.
     pub fn patterns_len(&self) -> usize
         ensures len { result ≡ length self.now.patterns }
         ensures patterns { CanBeKept self.now.patterns }
@@ -221,14 +248,14 @@ impl Overlapping {
         self.parts.patterns.len()
     }
 
-    /// The patterns, as they were given, in the order of their identifiers.
+    /// Returns an iterator over the patterns, as they were given, in the order of their numbers.
     pub fn patterns(&self) -> Patterns<'_>
         ensures { result ≡ self.now.patterns }
     {
         Patterns::of(&self.parts.patterns)
     }
 
-    /// The bytes of the pattern of a number, as they were given, and `None` where there is none of that number.
+    /// Returns the bytes of the pattern with this number, as they were given, or `None` if there is no such pattern.
     pub fn pattern(&self, id: PatternID) -> Option<&[u8]>
         ensures { MatchOption result (length self.now.patterns ≤ id)
             (λ bytes. (id < length self.now.patterns) × (bytes.now ≡ pattern_at self.now.patterns id)) }
@@ -237,14 +264,14 @@ impl Overlapping {
         Some(pattern.as_slice())
     }
 
-    /// How many bytes the longest pattern has, and 0 where there is none.
+    /// Returns the length in bytes of the longest pattern, or 0 if there is none.
     pub fn max_pattern_len(&self) -> usize
         ensures { result ≡ longest_of self.now.patterns }
     {
         self.parts.lent().table().longest
     }
 
-    /// Whether ASCII case is ignored.
+    /// Returns whether ASCII case is ignored.
     pub fn ignores_case(&self) -> bool
         ensures { result ≡ self.now.ignore_case }
     {
@@ -252,7 +279,7 @@ impl Overlapping {
     }
 }
 
-/// Says whether ASCII case is ignored, and how many patterns there are.
+/// Shows whether ASCII case is ignored, and the number of patterns.
 impl fmt::Debug for Overlapping {
     fn fmt<W: fmt::Write>(&self, f: &mut fmt::Formatter<W>) -> fmt::Result {
         let (ignore_case, patterns) = (self.ignores_case(), self.patterns_len());
@@ -264,7 +291,7 @@ impl fmt::Debug for Overlapping {
 }
 
 impl Parts {
-    /// The parts of its numbers, by which it searches.
+    /// The parts of the numbers, which a search reads.
     pub fn lent(&self) -> LentTables<'_>
         requires { AreParts self.now }
         ensures lent { AreLent result }
@@ -277,8 +304,8 @@ impl Parts {
     }
 }
 
-/// The numbers of the search for patterns. Memory is asked for only where there is one. Lists of 2^32 numbers or more
-/// are refused, too.
+/// Builds the numbers of a search for some patterns. Allocates only if there is a pattern. Lists of 2^32 numbers or
+/// more are refused too.
 fn numbers_of(alloc: Global, ignore_case: bool, patterns: &[Vec<u8>]) -> Result<Numbers, GrowError>
     requires { CanBeKept (map (λ pattern. pattern.items) patterns.now) }
     ensures kept { IfOk result (AreListed
@@ -318,23 +345,22 @@ fn numbers_of(alloc: Global, ignore_case: bool, patterns: &[Vec<u8>]) -> Result<
     Ok(numbers)
 }
 
-/// What [`Overlapping::find_overlapping_in`] goes over. Contracts see the search, the haystack, the span, and from
-/// which end and, at that one, from which identifier on occurrences are still to come. After its first `None` it keeps
-/// answering `None`.
+/// The iterator of [`Overlapping::find_overlapping_in`]. Contracts see the search, the haystack, the span, and the end
+/// and pattern number from which occurrences are still to come. After its first `None` it always answers `None`.
 #[derive(Drop)]
 pub struct OverlappingMatches<'s, 'h> {
     parts: &'s Parts,
     lent: LentTables<'s>,
     haystack: &'h [u8],
     span: Span,
-    standing: Standing,
+    position: Position,
 }
 
 impl<'s, 'h> Model for OverlappingMatches<'s, 'h> {
     ghost use Rattle.literal_search.specs.OverlappingMatchesValue.{OverlappingMatchesValue};
     ghost use Rattle.literal_search.specs.Inside.LentTables.{AreFor, AreLent, LiesAt, tables_by};
     ghost use Rattle.literal_search.specs.Inside.Overlapping.{overlapping_of};
-    ghost use Rattle.literal_search.specs.Inside.Standing.{IsStanding};
+    ghost use Rattle.literal_search.specs.Inside.Position.{IsPosition};
     ghost use Rattle.literal_base.specs.Occurs.{IsValidSpan};
 
     ghost Value = { OverlappingMatchesValue };
@@ -343,19 +369,19 @@ impl<'s, 'h> Model for OverlappingMatches<'s, 'h> {
       search = overlapping_of m.parts.now;
       haystack = m.haystack.now;
       span = m.span;
-      end = m.standing.at;
-      pattern = m.standing.pattern;
+      end = m.position.at;
+      pattern = m.position.pattern;
     } };
 
     ghost invariant = { λ m. AreLent m.lent × AreFor (overlapping_of m.parts.now) m.lent
-        × IsValidSpan m.haystack.now m.span × LiesAt m.span m.standing
-        × IsStanding (tables_by (overlapping_of m.parts.now) m.lent) m.haystack.now m.span m.standing };
+        × IsValidSpan m.haystack.now m.span × LiesAt m.span m.position
+        × IsPosition (tables_by (overlapping_of m.parts.now) m.lent) m.haystack.now m.span m.position };
 }
 
 impl<'s, 'h> OverlappingMatches<'s, 'h> {
-    /// Answers as `next`, and adds each byte that it looks up to a tally, as scanned: at least as many as there are
-    /// from the end where it stood up to that of the match, or up to that of the span, and at most three times as many.
-    /// An iteration so looks up at most three times as many bytes as the span has.
+    /// Like `next`, and counts each looked-up byte in the tally, as scanned: at least the bytes from the previous end
+    /// up to the end of the match, or of the span, and at most three times as many. So an iteration looks up at most
+    /// three times the bytes of the span.
     pub fn next_counted(&mut self, tally: &mut Tally) -> Option<Match>
         ensures gives { GivesOverlapping self.old result self.new }
         ensures bounded { ScansToEndWithin (between self.old.end self.old.span.end)
@@ -363,15 +389,15 @@ impl<'s, 'h> OverlappingMatches<'s, 'h> {
     {
         let next = self
             .lent
-            .next_from(self.haystack, self.span, self.standing, tally);
+            .next_from(self.haystack, self.span, self.position, tally);
         let Ok(next) = next else {
             unreachable!();
         };
         let Some(next) = next else {
-            self.standing = self.lent.behind_all(self.haystack, self.span);
+            self.position = self.lent.after_all(self.haystack, self.span);
             return None;
         };
-        self.standing = next.1;
+        self.position = next.1;
         Some(next.0)
     }
 }

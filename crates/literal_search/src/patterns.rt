@@ -4,7 +4,7 @@ ghost use Rattle.literal_search.specs.PatternsIter.{GivesPattern, left_to_give};
 
 use std::marker::Model;
 
-/// What [`Search::patterns`](crate::Search::patterns) goes over. Contracts see the patterns that are still to come.
+/// The iterator over the patterns of a search. Contracts see the patterns that are still to come.
 #[derive(Clone, Drop)]
 pub struct Patterns<'s> {
     left: &'s [Vec<u8>],
@@ -19,7 +19,7 @@ impl<'s> Model for Patterns<'s> {
 }
 
 impl<'s> Patterns<'s> {
-    /// Those of a list.
+    /// The iterator over a list.
     pub(crate) fn of(patterns: &'s [Vec<u8>]) -> Patterns<'s>
         ensures { result ≡ map (λ pattern. pattern.items) patterns.now }
     {

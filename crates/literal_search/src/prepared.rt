@@ -1,12 +1,12 @@
-//! A search as numbers in an array that its caller lends: written once, and then searched by, with no memory of its
-//! own. A search does not trust the array: where a number leads out of it, the search says so.
+//! Searches as numbers in an array that a caller lends, without memory of their own. The array is not trusted: if a
+//! number leads out of it, the search answers [`Damaged`].
 ghost use Rattle.std.specs.Prelude.{◌≡◌, ◌+◌, ◌-◌, ◌*◌, ◌<◌, ◌≤◌, ◌^◌, ◌↔◌, ◌++◌, [], ◌∷◌, length, map};
 ghost use Rattle.std.specs.Prelude.{ℕ, IfOk, IsTrue, MatchOption, MatchResult};
 ghost use Rattle.std.specs.Prelude.{min, slice_index, slice_range};
 ghost use Rattle.std.specs.Int.{from_le_bytes, w32};
 ghost use Rattle.std.specs.List.{repeat};
 ghost use Rattle.literal_search.specs.Prepared.{AreShort, HasParts};
-ghost use Rattle.literal_search.specs.Prepared.{check_of, pair_of, scan_by, past_skipped};
+ghost use Rattle.literal_search.specs.Prepared.{check_of, check_with, joined_with, pair_of, past_skipped, scan_by};
 ghost use Rattle.literal_search.specs.SearchValue.{longest_of};
 ghost use Rattle.literal_search.specs.Inside.Prepared.{IsHeader, Puts, numbers_for, header_table};
 ghost use Rattle.literal_search.specs.Inside.Packed.{packed, unpacked};
@@ -24,29 +24,30 @@ use std::error::Error;
 use std::fmt;
 use std::marker::Model;
 
-/// What the first number of a prepared search for leftmost matches is.
-pub const PREPARED_VERSION: u32 = 0x4C50_000A;
+/// The first number of a prepared search for leftmost matches.
+pub const PREPARED_VERSION: u32 = 0x4C50_000B;
 
-/// What that of one for everything that occurs is.
-pub const OVERLAPPING_VERSION: u32 = 0x4C4F_0008;
+/// The first number of a prepared search for every occurrence.
+pub const OVERLAPPING_VERSION: u32 = 0x4C4F_0009;
 
-/// Where the lengths of the patterns begin, behind the version, the check, the width, how many patterns and places in
-/// the rows there are, and how long the longest pattern is. Behind them stand the rows, and the class of each byte.
+/// The index of the first pattern length. Before it are the version, the checksum, the width, the number of patterns,
+/// the number of numbers in the rows, and the length of the longest pattern. After the lengths come the rows, and the
+/// class of each byte.
 pub const LENGTHS_AT: usize = 6;
 
-/// How many numbers a scan for candidates takes, after all others: one more than the number of bytes that it skips, or
-/// 0 if there is no scan, and one for four bytes each of its fingerprints, and of its rare pair. Zeros stand for what
-/// it has not.
+/// How many numbers describe a scan for candidates, after all others. The first is one more than the number of bytes
+/// that the scan skips, or 0 if there is no scan. The others hold the bytes of its fingerprints and of its rare pair,
+/// four each. A missing part is zeros.
 pub const SCAN_LEN: usize = PAIR_AT + PAIR_BYTES / 4;
 
-/// Which of these numbers is the first of the rare pair.
+/// The index among these of the first number of the rare pair.
 const PAIR_AT: usize = 1 + BYTES / 4;
 
-/// The prepared search for leftmost matches of no pattern: [`PREPARED_VERSION`], its check, one class, no pattern,
-/// two places, and no longest pattern; then the row of its one state, of which its one class leads to itself, and with
-/// which nothing ends, this class for each byte, and no scan for candidates.
+/// The prepared search for leftmost matches of no pattern: [`PREPARED_VERSION`], its checksum, one class, no pattern,
+/// two numbers in the rows, and the longest length 0. Then come the row of the only state, which its one class leads to
+/// and where no pattern ends, this class for each byte, and no scan for candidates.
 pub const NO_PATTERN: [u32; 299] = [
-    0x4C50000A, 0x46D0998E, 1, 0, 2, 0, 0, NOTHING, 0, 0, 0, 0, 0, 0, 0, 0, 0, 0, 0, 0, 0, 0, 0, 0,
+    0x4C50000B, 0x3AC675CE, 1, 0, 2, 0, 0, NOTHING, 0, 0, 0, 0, 0, 0, 0, 0, 0, 0, 0, 0, 0, 0, 0, 0,
     0, 0, 0, 0, 0, 0, 0, 0, 0, 0, 0, 0, 0, 0, 0, 0, 0, 0, 0, 0, 0, 0, 0, 0, 0, 0, 0, 0, 0, 0, 0, 0,
     0, 0, 0, 0, 0, 0, 0, 0, 0, 0, 0, 0, 0, 0, 0, 0, 0, 0, 0, 0, 0, 0, 0, 0, 0, 0, 0, 0, 0, 0, 0, 0,
     0, 0, 0, 0, 0, 0, 0, 0, 0, 0, 0, 0, 0, 0, 0, 0, 0, 0, 0, 0, 0, 0, 0, 0, 0, 0, 0, 0, 0, 0, 0, 0,
@@ -58,10 +59,10 @@ pub const NO_PATTERN: [u32; 299] = [
     0, 0, 0, 0, 0, 0, 0, 0, 0, 0, 0, 0, 0, 0, 0, 0, 0, 0, 0,
 ];
 
-/// The prepared search for everything that occurs of no pattern: [`OVERLAPPING_VERSION`], its check, and the numbers of
-/// [`NO_PATTERN`] with that of where the last of no lists ends.
+/// The prepared search for every occurrence of no pattern: [`OVERLAPPING_VERSION`], its checksum, and the numbers of
+/// [`NO_PATTERN`], with one more for the end of the empty list of lists.
 pub const NO_LISTED: [u32; 300] = [
-    0x4C4F0008, 0xD8CFA0FA, 1, 0, 2, 0, 0, NOTHING, 0, 0, 0, 0, 0, 0, 0, 0, 0, 0, 0, 0, 0, 0, 0, 0,
+    0x4C4F0009, 0xA3D626F6, 1, 0, 2, 0, 0, NOTHING, 0, 0, 0, 0, 0, 0, 0, 0, 0, 0, 0, 0, 0, 0, 0, 0,
     0, 0, 0, 0, 0, 0, 0, 0, 0, 0, 0, 0, 0, 0, 0, 0, 0, 0, 0, 0, 0, 0, 0, 0, 0, 0, 0, 0, 0, 0, 0, 0,
     0, 0, 0, 0, 0, 0, 0, 0, 0, 0, 0, 0, 0, 0, 0, 0, 0, 0, 0, 0, 0, 0, 0, 0, 0, 0, 0, 0, 0, 0, 0, 0,
     0, 0, 0, 0, 0, 0, 0, 0, 0, 0, 0, 0, 0, 0, 0, 0, 0, 0, 0, 0, 0, 0, 0, 0, 0, 0, 0, 0, 0, 0, 0, 0,
@@ -73,20 +74,21 @@ pub const NO_LISTED: [u32; 300] = [
     0, 0, 0, 0, 0, 0, 0, 0, 0, 0, 0, 0, 0, 0, 0, 0, 0, 0, 0, 0,
 ];
 
-/// What a check over no numbers is. It is not zero, so that no zeros lead to a check of zero.
+/// The start of the first of the four checksums; the others start at 0. It is not zero, so that zeros do not have the
+/// checksum zero.
 const CHECK_START: u32 = 2_166_136_261;
 
-/// By what each sum of a check is multiplied. It is odd, so that no two sums become the same.
+/// The factor of each sum of a checksum. It is odd, so that different sums stay different.
 const CHECK_FACTOR: u32 = 16_777_619;
 
-/// An array is too short for a search to be written into it, and stays as it was.
+/// An array is too short for a search, and is unchanged.
 #[derive(Clone, Copy, Debug, PartialEq, Eq, Drop)]
 pub struct ArrayTooShort {
-    /// How many places it has to have.
+    /// The number of entries that the search takes.
     pub needed: usize,
 }
 
-/// What is wrong, in a few words.
+/// A short message.
 impl fmt::Display for ArrayTooShort {
     ghost use Rattle.std.specs.Prelude.{Some};
     ghost use Rattle.literal_search.specs.ErrorText.{array_too_short_text};
@@ -100,11 +102,11 @@ impl fmt::Display for ArrayTooShort {
 
 impl Error for ArrayTooShort {}
 
-/// The numbers that were lent are not those of a prepared search.
+/// The lent numbers are not those of a prepared search.
 #[derive(Clone, Copy, Debug, PartialEq, Eq, Drop)]
 pub struct Damaged;
 
-/// What is wrong, in a few words.
+/// A short message.
 impl fmt::Display for Damaged {
     ghost use Rattle.std.specs.Prelude.{Some, codes};
 
@@ -117,20 +119,20 @@ impl fmt::Display for Damaged {
 
 impl Error for Damaged {}
 
-/// An array that begins as a prepared search, in its parts.
+/// The parts of an array that begins as a prepared search does.
 #[derive(Clone, Copy)]
 pub struct Header<'p> {
     pub numbers: &'p [u32],
     pub classes: &'p [u32],
     pub width: usize,
     pub lengths: &'p [u32],
-    /// With the classes behind them.
+    /// The rows, with the classes after them.
     pub rows: &'p [u32],
     pub longest: usize,
 }
 
 impl<'p> Header<'p> {
-    /// What a walk reads of them.
+    /// The table that a walk reads.
     #[inline(always)]
     pub fn table(&self) -> Table<'p>
         ensures { result ≡ header_table self.now }
@@ -144,8 +146,8 @@ impl<'p> Header<'p> {
     }
 }
 
-/// Where these parts lie, where the first numbers say that they are those of a search of a version, and that the array
-/// is as long as it has to be.
+/// The parts of an array, or [`Damaged`] if its first numbers are not those of a search of this version, or if it is
+/// shorter than they say.
 pub fn split<'p>(numbers: &'p [u32], version: u32) -> Result<Header<'p>, Damaged>
     ensures { MatchResult result
         (λ header. (header.numbers.now ≡ numbers.now) × HasParts version numbers.now × IsHeader version header)
@@ -154,9 +156,9 @@ pub fn split<'p>(numbers: &'p [u32], version: u32) -> Result<Header<'p>, Damaged
     if numbers.len() < LENGTHS_AT || numbers[0] != version {
         return Err(Damaged);
     }
-    let (patterns, places) = (numbers[3] as usize, numbers[4] as usize);
+    let (patterns, rows_len) = (numbers[3] as usize, numbers[4] as usize);
     let rows_at = LENGTHS_AT + patterns;
-    let rows_end = rows_at + places;
+    let rows_end = rows_at + rows_len;
     let end = rows_end + CLASSES_LEN;
     if patterns > PatternID::LIMIT || numbers.len() < end {
         return Err(Damaged);
@@ -171,7 +173,7 @@ pub fn split<'p>(numbers: &'p [u32], version: u32) -> Result<Header<'p>, Damaged
     })
 }
 
-/// Whether the second number is the check over those behind it, up to a place.
+/// Whether the second number is the checksum of the numbers after it, up to an index.
 pub fn is_checked(numbers: &[u32], end: usize) -> bool
     requires some { 2 ≤ end }
     requires inside { end ≤ length numbers.now }
@@ -195,7 +197,7 @@ pub fn scan_numbers(scan: Option<&CandidateScan>) -> [u32; SCAN_LEN]
     numbers
 }
 
-/// The numbers of a rare pair, and zeros if there is none.
+/// The numbers of a rare pair, or zeros if there is none.
 fn pair_numbers(pair: &Option<RarePair>) -> [u32; PAIR_BYTES / 4]
     ensures { pair_of (unpacked result) ≡ pair.now }
 {
@@ -206,7 +208,7 @@ fn pair_numbers(pair: &Option<RarePair>) -> [u32; PAIR_BYTES / 4]
     numbers
 }
 
-/// Writes bytes into numbers, four in each, the first in its lowest eight bits.
+/// Writes bytes into numbers, four in each, the first in the lowest eight bits.
 pub(crate) fn pack(bytes: &[u8], numbers: &mut [u32])
     requires { length bytes.now ≡ 4 * length numbers.old }
     ensures packed { numbers.new ≡ packed (length numbers.old) bytes.now }
@@ -217,7 +219,7 @@ pub(crate) fn pack(bytes: &[u8], numbers: &mut [u32])
     }
 }
 
-/// The number that holds the four bytes from a place on.
+/// The number that holds the four bytes from an index on.
 fn number_at(bytes: &[u8], at: usize) -> u32
     requires { at + 4 ≤ length bytes.now }
     ensures { result ≡ from_le_bytes w32 (slice_range bytes.now at (at + 4)) }
@@ -225,7 +227,7 @@ fn number_at(bytes: &[u8], at: usize) -> u32
     u32::from_le_bytes([bytes[at], bytes[at + 1], bytes[at + 2], bytes[at + 3]])
 }
 
-/// The scan for candidates of such numbers, if these are of one.
+/// The scan for candidates that these numbers describe, if there is one.
 #[inline(always)]
 pub fn scan_in(prints: &[u32]) -> Option<CandidateScan>
     requires { length prints.now ≡ SCAN_LEN }
@@ -238,7 +240,7 @@ pub fn scan_in(prints: &[u32]) -> Option<CandidateScan>
     Some(scan_by(prints))
 }
 
-/// The scan by such numbers.
+/// The scan for candidates that these numbers describe.
 #[inline(always)]
 fn scan_by(prints: &[u32]) -> CandidateScan
     requires { length prints.now ≡ SCAN_LEN }
@@ -253,7 +255,7 @@ fn scan_by(prints: &[u32]) -> CandidateScan
     }
 }
 
-/// The rare pair of its numbers, if these are of one.
+/// The rare pair that these numbers describe, if there is one.
 #[inline(always)]
 fn pair_by(numbers: &[u32]) -> Option<RarePair>
     requires { length numbers.now ≡ 2 }
@@ -267,7 +269,7 @@ fn pair_by(numbers: &[u32]) -> Option<RarePair>
     Some(RarePair::from_bytes(&bytes))
 }
 
-/// Writes the bytes that numbers hold in this way.
+/// Writes the bytes that are packed into numbers.
 #[inline(always)]
 pub(crate) fn unpack(numbers: &[u32], bytes: &mut [u8])
     requires { length bytes.old ≡ 4 * length numbers.now }
@@ -278,9 +280,9 @@ pub(crate) fn unpack(numbers: &[u32], bytes: &mut [u8])
     }
 }
 
-/// Makes the numbers of a search of a version around its rows, in their list, so that the rows are in memory once.
-/// Behind the rows and classes may stand lists, of which `starts` says where each begins, and behind all others the
-/// numbers of its scan for candidates.
+/// Puts the other numbers of a search around its rows, in the list of the rows, so that the rows are in memory once.
+/// After the rows and classes there may be lists; `starts` says where each begins. The numbers of the scan for
+/// candidates come last.
 pub fn assemble(
     alloc: Global,
     version: u32,
@@ -301,8 +303,8 @@ pub fn assemble(
     ensures { IfOk result (λ numbers. numbers.items ≡ numbers_for version classes.now.table classes.now.width
         (map (λ pattern. pattern.items) patterns.now) rows.items starts.now (ends.now ++ prints.now)) }
 {
-    let (width, places) = (classes.width as u32, rows.len() as u32);
-    let header = header_for(alloc, version, width, places, patterns)?;
+    let (width, rows_len) = (classes.width as u32, rows.len() as u32);
+    let header = header_for(alloc, version, width, rows_len, patterns)?;
     let mut numbers = rows;
     numbers.reserve_exact(header.len() + CLASSES_LEN + starts.len() + ends.len() + SCAN_LEN)?;
     let none = numbers.splice(0..0, header)?;
@@ -316,29 +318,29 @@ pub fn assemble(
     Ok(numbers)
 }
 
-/// The numbers before the rows, with 0 for the check.
+/// The numbers before the rows, with 0 for the checksum.
 fn header_for(
     alloc: Global,
     version: u32,
     width: u32,
-    places: u32,
+    rows_len: u32,
     patterns: &[Vec<u8>],
 ) -> Result<Vec<u32>, AllocError>
     requires patterns { length patterns.now < 2 ^ 32 }
     requires short { AreShort (map (λ pattern. pattern.items) patterns.now) }
-    ensures { IfOk result (λ header. header.items ≡ version ∷ 0 ∷ width ∷ length patterns.now ∷ places
+    ensures { IfOk result (λ header. header.items ≡ version ∷ 0 ∷ width ∷ length patterns.now ∷ rows_len
         ∷ longest_of (map (λ pattern. pattern.items) patterns.now)
         ∷ map (λ pattern. length pattern.items) patterns.now) }
 {
     let (count, longest) = (patterns.len() as u32, longest_len(patterns) as u32);
-    let mut header = Vec::from_slice(alloc, &[version, 0, width, count, places, longest])?;
+    let mut header = Vec::from_slice(alloc, &[version, 0, width, count, rows_len, longest])?;
     for pattern in patterns {
         header.push(pattern.len() as u32)?;
     }
     Ok(header)
 }
 
-/// Writes numbers into an array, from a place on.
+/// Writes numbers into an array, from an index on.
 pub(crate) fn put_numbers(array: &mut [u32], at: usize, numbers: &[u32])
     requires { at + length numbers.now ≤ length array.old }
     ensures { Puts at numbers.now array.old array.new }
@@ -346,7 +348,7 @@ pub(crate) fn put_numbers(array: &mut [u32], at: usize, numbers: &[u32])
     array[at..at + numbers.len()].copy_from_slice(numbers);
 }
 
-/// Adds the class of each byte to numbers.
+/// Appends the class of each byte.
 fn push_classes(numbers: &mut Vec<u32>, classes: &[u8; 256]) -> Result<(), AllocError>
     ensures { IfOk result (λ _. numbers.new.items ≡ numbers.old.items ++ packed_classes classes.now) }
 {
@@ -356,7 +358,7 @@ fn push_classes(numbers: &mut Vec<u32>, classes: &[u8; 256]) -> Result<(), Alloc
     Ok(())
 }
 
-/// Adds where lists begin to numbers.
+/// Appends the indices at which lists begin.
 fn push_starts(numbers: &mut Vec<u32>, starts: &[usize]) -> Result<(), AllocError>
     requires { (i : ℕ) → slice_index starts.now i < 2 ^ 32 }
     ensures { IfOk result (λ _. numbers.new.items ≡ numbers.old.items ++ starts.now) }
@@ -367,15 +369,35 @@ fn push_starts(numbers: &mut Vec<u32>, starts: &[usize]) -> Result<(), AllocErro
     Ok(())
 }
 
-/// A check over numbers.
+/// The checksum of numbers. Each of four checksums takes every fourth number, so no multiplication waits for the
+/// previous one.
 fn check_over(numbers: &[u32]) -> u32
     ensures { result ≡ check_of numbers.now }
 {
-    let mut check = CHECK_START;
+    let (mut first, mut second, mut third, mut fourth) = (CHECK_START, 0, 0, 0);
     for number in numbers {
-        let sum = check.wrapping_add(*number);
-        // A product carries upwards only, so the upper half goes into the lower one first.
-        check = (sum ^ (sum >> 16)).wrapping_mul(CHECK_FACTOR);
+        let next = check_with(first, *number);
+        (first, second, third, fourth) = (second, third, fourth, next);
     }
-    check
+    joined_with(
+        joined_with(joined_with(joined_with(0, first), second), third),
+        fourth,
+    )
+}
+
+/// A checksum after one more number.
+#[inline(always)]
+fn check_with(check: u32, number: u32) -> u32
+    ensures { result ≡ check_with check number }
+{
+    let sum = check.wrapping_add(number);
+    // A product carries only upward, so the upper half goes into the lower one first.
+    (sum ^ (sum >> 16)).wrapping_mul(CHECK_FACTOR)
+}
+
+/// Joins two checksums. The sum is mixed twice: mixed once, some pairs of flipped top bits would cancel.
+fn joined_with(check: u32, other: u32) -> u32
+    ensures { result ≡ joined_with check other }
+{
+    check_with(check_with(check, other), 0)
 }

@@ -1,5 +1,4 @@
-//! A search for everything that occurs as numbers in an array that its caller lends. It does not trust the array,
-//! either.
+//! The search for every occurrence by an array that its caller lends. The array is not trusted.
 ghost use Rattle.std.specs.Prelude.{◌≡◌, ◌+◌, ◌-◌, ◌*◌, ◌<◌, ◌≤◌, ◌↔◌, length, slice_index, List, ℕ};
 ghost use Rattle.std.specs.Prelude.{IfOk, IfSome, IsTrue, MatchOption, MatchResult, None, ⊤};
 ghost use Rattle.std.specs.Option.{option_map};
@@ -7,45 +6,45 @@ ghost use Rattle.std.specs.Result.{IsOkAnd};
 ghost use Rattle.literal_base.specs.MatchValue.{MatchValue};
 ghost use Rattle.literal_base.specs.Occurs.{IsValidSpan, between};
 ghost use Rattle.literal_search.specs.Earliest.{IsEarliestEnd, ScansToEndWithin};
-ghost use Rattle.literal_search.specs.Overlapping.{OverlappingValue};
+ghost use Rattle.literal_search.specs.Overlapping.{IsOverlappingCount, OverlappingValue};
 ghost use Rattle.literal_search.specs.OverlappingMatchesValue.{GivesOverlapping, IsToCome};
 ghost use Rattle.literal_search.specs.Prepared.{LiesIn};
 ghost use Rattle.literal_search.specs.PreparedOverlapping.{ForOverlapping, HasEnded, HasLists, IsNotBefore};
 ghost use Rattle.literal_search.specs.PreparedOverlapping.{IsWholeOverlapping, matches_for};
 ghost use Rattle.literal_search.specs.Inside.LentTables.{AreFor, AreLent, EndsAt, IsNextBy, IsNextEnd, LiesAt};
-ghost use Rattle.literal_search.specs.Inside.LentTables.{StandsBy, tables_by};
+ghost use Rattle.literal_search.specs.Inside.LentTables.{IsPositionBy, tables_by};
 ghost use Rattle.literal_search.specs.Inside.Packed.{unpacked};
 ghost use Rattle.literal_search.specs.Inside.Rows.{rows_of};
 ghost use Rattle.literal_search.specs.Inside.Scan.{IsTableFor};
-ghost use Rattle.literal_search.specs.Inside.Standing.{IsStanding, longest_at, standing_at, standing_value};
+ghost use Rattle.literal_search.specs.Inside.Position.{IsPosition, longest_at, position_at, position_value};
 ghost use Rattle.literal_search.specs.Inside.Walk.{classes_by, rows_by};
-ghost use Rattle.literal_search.specs.declared.standing.Standing.{Standing};
+ghost use Rattle.literal_search.specs.declared.position.Position.{Position};
 
+use crate::position::Position;
 use crate::prepared::{
     Damaged, Header, LENGTHS_AT, OVERLAPPING_VERSION, SCAN_LEN, is_checked, scan_in, split,
 };
-use crate::standing::Standing;
-use crate::walk::{Stop, Table};
+use crate::walk::{Table, WalkEnd};
 use literal_base::count::Tally;
 use literal_base::{Match, Span};
 use std::marker::Model;
 
-/// A search for every occurrence by numbers that [`Overlapping::prepare`](crate::Overlapping::prepare) wrote into an
-/// array, which may be longer. Contracts see the array.
+/// Searches for every occurrence by an array that [`Overlapping::prepare`](crate::Overlapping::prepare) wrote. The
+/// array may be longer. Contracts see the array.
 #[derive(Drop)]
 pub struct PreparedOverlapping<'p> {
     lent: LentTables<'p>,
 }
 
-/// The numbers in an array, in their parts: by these an [`Overlapping`](crate::Overlapping) searches, too.
+/// The parts of an array. An [`Overlapping`](crate::Overlapping) reads the same.
 #[derive(Clone, Copy)]
 pub struct LentTables<'p> {
-    header: Header<'p>,
-    /// Where the list of each pattern begins, and the last ends.
+    pub header: Header<'p>,
+    /// The index at which the list of each pattern begins in `ends`, and the one at which the last list ends.
     pub starts: &'p [u32],
     pub ends: &'p [u32],
-    /// The numbers of the scan for candidates by which a search passes over bytes, if there is one.
-    prints: &'p [u32],
+    /// The numbers of the scan for candidates, if there is one.
+    pub prints: &'p [u32],
 }
 
 impl<'p> Model for PreparedOverlapping<'p> {
@@ -60,8 +59,8 @@ impl<'p> Model for PreparedOverlapping<'p> {
 }
 
 impl<'p> PreparedOverlapping<'p> {
-    /// The search by the numbers in an array, where its first numbers say that it is one, and it is as long as they and
-    /// its lists say. No more of it is read: [`PreparedOverlapping::is_whole`] goes over all of it.
+    /// Returns the search in an array, or [`Damaged`] if its first numbers are not those of such a search, or if it is
+    /// shorter than they and the lists say. It reads only these; [`PreparedOverlapping::is_whole`] reads all of it.
     pub fn new(numbers: &'p [u32]) -> Result<PreparedOverlapping<'p>, Damaged>
         ensures { MatchResult result (λ prepared. (prepared ≡ numbers.now) × HasLists numbers.now)
             (λ _. ¬ HasLists numbers.now) }
@@ -72,8 +71,8 @@ impl<'p> PreparedOverlapping<'p> {
         Ok(PreparedOverlapping { lent })
     }
 
-    /// Whether the check over all numbers of the search is right, as [`Prepared::is_whole`](crate::Prepared::is_whole)
-    /// says it.
+    /// Returns whether the checksum over all numbers of the search is right.
+    /// [`Prepared::is_whole`](crate::Prepared::is_whole) says which changes it finds.
     pub fn is_whole(&self) -> bool
         ensures { IsTrue result ↔ IsWholeOverlapping self.now }
     {
@@ -88,9 +87,9 @@ impl<'p> PreparedOverlapping<'p> {
         is_checked(header.numbers, end)
     }
 
-    /// The earliest end of an occurrence in a span of the haystack, for which the same holds as for
-    /// [`Overlapping::earliest_end`](crate::Overlapping::earliest_end). With numbers that were changed it may be
-    /// another place of the span, or [`Damaged`].
+    /// Returns the earliest end of an occurrence in a span of the haystack, as
+    /// [`Overlapping::earliest_end`](crate::Overlapping::earliest_end) does. With a changed array the answer may be
+    /// another offset in the span, or [`Damaged`].
     pub fn earliest_end(&self, haystack: &[u8], span: Span) -> Result<Option<usize>, Damaged>
         requires { IsValidSpan haystack.now span }
         ensures prepared { ForOverlapping self.now (λ search. IsOkAnd result
@@ -100,9 +99,9 @@ impl<'p> PreparedOverlapping<'p> {
         self.earliest_end_counted(haystack, span, &mut Tally::new())
     }
 
-    /// Answers as [`PreparedOverlapping::earliest_end`], and adds each byte that it looks up to a tally, as scanned:
-    /// whatever the numbers are, at least as many as there are up to that end, or in the span where it answers none,
-    /// and at most three times as many; and at most three times the bytes of the span before [`Damaged`].
+    /// Like [`PreparedOverlapping::earliest_end`], and counts each looked-up byte in the tally, as scanned. With any
+    /// array, these are at least the bytes up to the returned end, or those of the span for `None`, and at most three
+    /// times as many. With [`Damaged`] they are at most three times the bytes of the span.
     #[tactic(auto, using(crate::proofs::lemmas::LentTables::are_for))]
     pub fn earliest_end_counted(
         &self,
@@ -121,10 +120,41 @@ impl<'p> PreparedOverlapping<'p> {
         self.lent.earliest_end(haystack, span, tally)
     }
 
-    /// Every occurrence in a span of the haystack, for which the same holds as for
-    /// [`Overlapping::find_overlapping_in`](crate::Overlapping::find_overlapping_in). With numbers that were changed it
-    /// may give others, or [`Damaged`]; but each lies in the span, is not empty, and names one of the patterns, and the
-    /// ends ascend, and at one end the identifiers.
+    /// Returns the number of all occurrences in a span of the haystack, as
+    /// [`Overlapping::count_overlapping_in`](crate::Overlapping::count_overlapping_in) does. With a changed array the
+    /// answer may be another number, or [`Damaged`].
+    pub fn count_overlapping_in(&self, haystack: &[u8], span: Span) -> Result<u128, Damaged>
+        requires { IsValidSpan haystack.now span }
+        ensures { ForOverlapping self.now (λ search. IsOkAnd result
+            (IsOverlappingCount search.patterns search.ignore_case haystack.now span)) }
+    {
+        self.count_overlapping_counted(haystack, span, &mut Tally::new())
+    }
+
+    /// Like [`PreparedOverlapping::count_overlapping_in`], and counts each looked-up byte in the tally, as scanned.
+    /// With any array, these are at most three times the bytes of the span, and, unless the answer is [`Damaged`], at
+    /// least these bytes.
+    #[tactic(auto, using(crate::proofs::lemmas::LentTables::are_for))]
+    pub fn count_overlapping_counted(
+        &self,
+        haystack: &[u8],
+        span: Span,
+        tally: &mut Tally,
+    ) -> Result<u128, Damaged>
+        requires { IsValidSpan haystack.now span }
+        ensures count { ForOverlapping self.now (λ search. IsOkAnd result
+            (IsOverlappingCount search.patterns search.ignore_case haystack.now span)) }
+        ensures others { tally.new ≡ record tally.old { scanned = tally.new.scanned } }
+        ensures most { tally.new.scanned ≤ tally.old.scanned + 3 * (span.end - span.start) }
+        ensures least { IfOk result (λ _. tally.old.scanned + (span.end - span.start) ≤ tally.new.scanned) }
+    {
+        self.lent.count_in(haystack, span, tally)
+    }
+
+    /// Returns an iterator over every occurrence in a span of the haystack, as
+    /// [`Overlapping::find_overlapping_in`](crate::Overlapping::find_overlapping_in) does. With a changed array it may
+    /// give other matches, or [`Damaged`]. But each match lies in the span, is not empty, and names one of the
+    /// patterns; the ends ascend, and at one end the pattern numbers.
     pub fn find_overlapping_in<'s, 'h>(
         &'s self,
         haystack: &'h [u8],
@@ -143,13 +173,13 @@ impl<'p> PreparedOverlapping<'p> {
             lent: &self.lent,
             haystack,
             span,
-            standing: self.lent.before_all(haystack, span),
+            position: self.lent.before_all(haystack, span),
         }
     }
 }
 
-/// The parts of an array, where its first numbers say that it is such a search, and it is as long as they and its lists
-/// say.
+/// The parts of an array, or [`Damaged`] if its first numbers are not those of such a search, or if it is shorter than
+/// they and the lists say.
 pub fn lent_in(numbers: &[u32]) -> Result<LentTables<'_>, Damaged>
     ensures { MatchResult result (λ lent. (lent.header.numbers.now ≡ numbers.now) × AreLent lent)
         (λ _. ¬ HasLists numbers.now) }
@@ -174,7 +204,7 @@ pub fn lent_in(numbers: &[u32]) -> Result<LentTables<'_>, Damaged>
 }
 
 impl<'p> LentTables<'p> {
-    /// What a walk reads of them.
+    /// The table that a walk reads.
     #[inline(always)]
     #[tactic(auto, using(crate::proofs::lemmas::LentTables::lent_table, crate::proofs::lemmas::Prepared::classes_long))]
     pub fn table(&self) -> Table<'_>
@@ -214,25 +244,25 @@ impl<'p> LentTables<'p> {
         }
     }
 
-    /// Where a search stands before all that occurs in the span.
-    pub fn before_all(&self, haystack: &[u8], span: Span) -> Standing
+    /// The position of a search before all occurrences in the span.
+    pub fn before_all(&self, haystack: &[u8], span: Span) -> Position
         requires { IsValidSpan haystack.now span }
         ensures at { (result.at ≡ span.start) × (result.pattern ≡ 0) }
         ensures lies { LiesAt span result }
-        ensures stands { StandsBy self.now haystack.now span result }
+        ensures stands { IsPositionBy self.now haystack.now span result }
     {
         prove!(span.end <= haystack.len());
-        Standing {
+        Position {
             at: span.start,
-            place: 0,
+            row: 0,
             pattern: 0,
             next: 0,
             end: 0,
         }
     }
 
-    /// Where a search stands behind all that occurs in the span.
-    pub fn behind_all(&self, haystack: &[u8], span: Span) -> Standing
+    /// The position of a search after all occurrences in the span.
+    pub fn after_all(&self, haystack: &[u8], span: Span) -> Position
         requires lent { AreLent self.now }
         requires valid { IsValidSpan haystack.now span }
         ensures at { result.at ≡ span.end }
@@ -240,92 +270,94 @@ impl<'p> LentTables<'p> {
         ensures pattern { (search : OverlappingValue) → AreFor search self.now
             → result.pattern ≡ length search.patterns }
         ensures lies { LiesAt span result }
-        ensures stands { StandsBy self.now haystack.now span result }
+        ensures stands { IsPositionBy self.now haystack.now span result }
     {
         prove!(span.end <= haystack.len());
-        Standing {
+        Position {
             at: span.end,
-            place: 0,
+            row: 0,
             pattern: self.header.lengths.len(),
             next: 0,
             end: 0,
         }
     }
 
-    /// Where a walk stands that stopped where a pattern ends: before all patterns that end there.
-    fn standing_at(&self, stop: Stop) -> Result<Standing, Damaged>
+    /// The position after a walk that stopped at an offset where a pattern ends: before all patterns that end there.
+    fn position_at(&self, stop: WalkEnd) -> Result<Position, Damaged>
         ensures prepared { (search : OverlappingValue)
-            → stop.place + self.now.header.width < length (rows_of self.now.header.rows.now)
+            → stop.row + self.now.header.width < length (rows_of self.now.header.rows.now)
             → longest_at (tables_by search self.now) stop + 1 < length self.now.starts.now
-            → IsOkAnd result (λ s. s ≡ standing_at (tables_by search self.now) stop) }
-        ensures at { IfOk result (λ s. (s.at ≡ stop.end) × (s.place ≡ stop.place)) }
+            → IsOkAnd result (λ s. s ≡ position_at (tables_by search self.now) stop) }
+        ensures at { IfOk result (λ s. (s.at ≡ stop.end) × (s.row ≡ stop.row)) }
     {
         let table = self.header.table();
-        let longest = table.ending_at(stop.place)? as usize;
+        let longest = table.ending_at(stop.row)? as usize;
         let next = *self.starts.get(longest).ok_or(Damaged)? as usize;
         let end = *self.starts.get(longest + 1).ok_or(Damaged)? as usize;
-        Ok(Standing {
+        Ok(Position {
             at: stop.end,
-            place: stop.place,
+            row: stop.row,
             pattern: 0,
             next,
             end,
         })
     }
 
-    /// Where the next occurrence ends: here, as long as the list has more, or else at the next end of a pattern.
-    fn next_end(
+    /// The position at which the next occurrence ends: this one while its list has more, otherwise the next such end.
+    pub fn next_end(
         &self,
         haystack: &[u8],
         span: Span,
-        standing: Standing,
+        position: Position,
         tally: &mut Tally,
-    ) -> Result<Option<Standing>, Damaged>
+    ) -> Result<Option<Position>, Damaged>
         requires lent { AreLent self.now }
         requires valid { IsValidSpan haystack.now span }
-        requires lies { LiesAt span standing }
+        requires lies { LiesAt span position }
         ensures prepared { (search : OverlappingValue) → AreFor search self.now
-            → IsStanding (tables_by search self.now) haystack.now span standing
-            → IsOkAnd result (IsNextEnd (tables_by search self.now) haystack.now span standing) }
+            → IsPosition (tables_by search self.now) haystack.now span position
+            → IsOkAnd result (IsNextEnd (tables_by search self.now) haystack.now span position) }
         ensures inside { IfOk result (λ next. IfSome next (LiesAt span)) }
         ensures ordered { IfOk result (λ next. IfSome next (λ here.
-            IsNotBefore here.at here.pattern standing.at standing.pattern)) }
+            IsNotBefore here.at here.pattern position.at position.pattern)) }
+        ensures further { position.end ≤ position.next → IfOk result (λ next. IfSome next
+            (λ here. position.at < here.at)) }
         ensures others { tally.new ≡ record tally.old { scanned = tally.new.scanned } }
-        ensures most { tally.new.scanned + 3 * standing.at ≤ tally.old.scanned + 3 * span.end }
-        ensures bounded { IfOk result (λ next. ScansToEndWithin (between standing.at span.end)
+        ensures most { tally.new.scanned + 3 * position.at ≤ tally.old.scanned + 3 * span.end }
+        ensures bounded { IfOk result (λ next. ScansToEndWithin (between position.at span.end)
             (option_map (λ here. here.at) next) tally.old tally.new) }
     {
-        if standing.next < standing.end {
-            return Ok(Some(standing));
+        if position.next < position.end {
+            return Ok(Some(position));
         }
-        if standing.at == span.end {
+        if position.at == span.end {
             return Ok(None);
         }
         let rest = Span {
-            start: standing.at,
+            start: position.at,
             end: span.end,
         };
         let found = self
             .table()
-            .next_end(self.prints, haystack, standing.place, rest, tally)?;
+            .next_end(self.prints, haystack, position.row, rest, tally)?;
         let Some(stop) = found else {
             return Ok(None);
         };
-        Ok(Some(self.standing_at(stop)?))
+        Ok(Some(self.position_at(stop)?))
     }
 
-    /// The next occurrence of those that end where a search stands, and where it then stands.
+    /// The next of the occurrences that end at a position, and the position after it.
     fn first_of(
         &self,
         haystack: &[u8],
         span: Span,
-        here: Standing,
-    ) -> Result<(Match, Standing), Damaged>
+        here: Position,
+    ) -> Result<(Match, Position), Damaged>
         requires lent { AreLent self.now }
         requires valid { IsValidSpan haystack.now span }
         requires lies { LiesAt span here }
         ensures prepared { (search : OverlappingValue) → AreFor search self.now
-            → IsStanding (tables_by search self.now) haystack.now span here → here.next < here.end
+            → IsPosition (tables_by search self.now) haystack.now span here → here.next < here.end
             → IsOkAnd result (λ r. IsNextBy (tables_by search self.now) haystack.now span here r.0 r.1) }
         ensures inside { IfOk result (λ r. EndsAt span r.0 r.1 × (r.0.end ≡ here.at)) }
         ensures pattern { IfOk result (λ r. r.0.pattern < length self.now.header.lengths.now) }
@@ -341,65 +373,65 @@ impl<'p> LentTables<'p> {
             return Err(Damaged);
         }
         let (start, end) = (here.at - len, here.at);
-        let standing = Standing {
+        let position = Position {
             at: here.at,
-            place: here.place,
+            row: here.row,
             pattern: pattern + 1,
             next: here.next + 1,
             end: here.end,
         };
-        Ok((Match::must(pattern, Span { start, end }), standing))
+        Ok((Match::must(pattern, Span { start, end }), position))
     }
 
-    /// The next occurrence behind where a search stands, and where it then stands.
-    #[tactic(auto, using(crate::proofs::lemmas::Standing::next_moved))]
+    /// The next occurrence after a position, and the position after it.
+    #[tactic(auto, using(crate::proofs::lemmas::Position::next_moved))]
     pub fn next_from(
         &self,
         haystack: &[u8],
         span: Span,
-        standing: Standing,
+        position: Position,
         tally: &mut Tally,
-    ) -> Result<Option<(Match, Standing)>, Damaged>
+    ) -> Result<Option<(Match, Position)>, Damaged>
         requires lent { AreLent self.now }
         requires valid { IsValidSpan haystack.now span }
-        requires lies { LiesAt span standing }
+        requires lies { LiesAt span position }
         ensures prepared { (search : OverlappingValue) → AreFor search self.now
-            → IsStanding (tables_by search self.now) haystack.now span standing
+            → IsPosition (tables_by search self.now) haystack.now span position
             → IsOkAnd result (λ answer. MatchOption answer ((found : MatchValue)
-            → ¬ IsToCome (standing_value (tables_by search self.now) haystack.now span standing) found)
-            (λ r. IsNextBy (tables_by search self.now) haystack.now span standing r.0 r.1)) }
+            → ¬ IsToCome (position_value (tables_by search self.now) haystack.now span position) found)
+            (λ r. IsNextBy (tables_by search self.now) haystack.now span position r.0 r.1)) }
         ensures inside { IfOk result (λ answer. IfSome answer (λ r. EndsAt span r.0 r.1)) }
         ensures pattern { IfOk result (λ answer. IfSome answer
             (λ r. r.0.pattern < length self.now.header.lengths.now)) }
         ensures ordered { IfOk result (λ answer. IfSome answer
-            (λ r. IsNotBefore r.0.end r.0.pattern standing.at standing.pattern
+            (λ r. IsNotBefore r.0.end r.0.pattern position.at position.pattern
             × (r.1.pattern ≡ r.0.pattern + 1))) }
         ensures others { tally.new ≡ record tally.old { scanned = tally.new.scanned } }
-        ensures most { tally.new.scanned + 3 * standing.at ≤ tally.old.scanned + 3 * span.end }
-        ensures bounded { IfOk result (λ answer. ScansToEndWithin (between standing.at span.end)
+        ensures most { tally.new.scanned + 3 * position.at ≤ tally.old.scanned + 3 * span.end }
+        ensures bounded { IfOk result (λ answer. ScansToEndWithin (between position.at span.end)
             (option_map (λ r. r.0.end) answer) tally.old tally.new) }
     {
-        let Some(here) = self.next_end(haystack, span, standing, tally)? else {
+        let Some(here) = self.next_end(haystack, span, position, tally)? else {
             return Ok(None);
         };
         Ok(Some(self.first_of(haystack, span, here)?))
     }
 }
 
-/// What [`PreparedOverlapping::find_overlapping_in`] goes over. Contracts see the array, the haystack, the span, and
-/// from which end and, at that one, from which identifier on occurrences are still to come. After [`Damaged`], or its
-/// first `None`, it stands at the end of the span, behind the last identifier, and has ended.
+/// The iterator of [`PreparedOverlapping::find_overlapping_in`]. Contracts see the array, the haystack, the span, and
+/// the end and pattern number from which occurrences are still to come. After [`Damaged`] or its first `None` it has
+/// ended: it is at the end of the span, past the last pattern number.
 #[derive(Drop)]
 pub struct PreparedOverlappingMatches<'s, 'p, 'h> {
     lent: &'s LentTables<'p>,
     haystack: &'h [u8],
     span: Span,
-    standing: Standing,
+    position: Position,
 }
 
 impl<'s, 'p, 'h> Model for PreparedOverlappingMatches<'s, 'p, 'h> {
     ghost use Rattle.literal_search.specs.PreparedOverlapping.{PreparedOverlappingMatchesValue};
-    ghost use Rattle.literal_search.specs.Inside.LentTables.{AreLent, LiesAt, StandsBy};
+    ghost use Rattle.literal_search.specs.Inside.LentTables.{AreLent, IsPositionBy, LiesAt};
     ghost use Rattle.literal_base.specs.Occurs.{IsValidSpan};
 
     ghost Value = { PreparedOverlappingMatchesValue };
@@ -408,18 +440,18 @@ impl<'s, 'p, 'h> Model for PreparedOverlappingMatches<'s, 'p, 'h> {
       numbers = m.lent.now.header.numbers.now;
       haystack = m.haystack.now;
       span = m.span;
-      end = m.standing.at;
-      pattern = m.standing.pattern;
+      end = m.position.at;
+      pattern = m.position.pattern;
     } };
 
-    ghost invariant = { λ m. AreLent m.lent.now × IsValidSpan m.haystack.now m.span × LiesAt m.span m.standing
-        × StandsBy m.lent.now m.haystack.now m.span m.standing };
+    ghost invariant = { λ m. AreLent m.lent.now × IsValidSpan m.haystack.now m.span × LiesAt m.span m.position
+        × IsPositionBy m.lent.now m.haystack.now m.span m.position };
 }
 
 impl<'s, 'p, 'h> PreparedOverlappingMatches<'s, 'p, 'h> {
-    /// The next occurrence, as [`OverlappingMatches`](crate::OverlappingMatches) gives them, and `None` behind the
-    /// last. With numbers that were changed each still ends behind the one before it, or there and has a greater
-    /// identifier; after `None` or [`Damaged`] there is only `None`.
+    /// Returns the next occurrence, as [`OverlappingMatches`](crate::OverlappingMatches) does, or `None` after the
+    /// last. With a changed array, each match still ends after the previous one, or at the same offset with a greater
+    /// pattern number. After `None` or [`Damaged`] it always answers `None`.
     pub fn next_match(&mut self) -> Result<Option<Match>, Damaged>
         ensures prepared { ForOverlapping self.old.numbers (λ search. IsOkAnd result (λ answer.
             GivesOverlapping (matches_for search self.old) answer (matches_for search self.new))) }
@@ -437,9 +469,8 @@ impl<'s, 'p, 'h> PreparedOverlappingMatches<'s, 'p, 'h> {
         self.next_counted(&mut Tally::new())
     }
 
-    /// Answers as `next_match`, and adds each byte that it looks up to a tally, as scanned: at most three times as many
-    /// as there are from the end where it stood up to that where it stands, in the span. An iteration so looks up at
-    /// most three times as many bytes as the span has, whatever the numbers are.
+    /// Like `next_match`, and counts each looked-up byte in the tally, as scanned: with any array, at most three times
+    /// the bytes by which its end advances. So an iteration looks up at most three times the bytes of the span.
     #[tactic(auto, using(crate::proofs::lemmas::LentTables::are_for))]
     pub fn next_counted(&mut self, tally: &mut Tally) -> Result<Option<Match>, Damaged>
         ensures prepared { ForOverlapping self.old.numbers (λ search. IsOkAnd result (λ answer.
@@ -463,22 +494,22 @@ impl<'s, 'p, 'h> PreparedOverlappingMatches<'s, 'p, 'h> {
         }
         let answer = self
             .lent
-            .next_from(self.haystack, self.span, self.standing, tally);
-        if let Ok(Some((found, standing))) = answer {
-            self.standing = standing;
+            .next_from(self.haystack, self.span, self.position, tally);
+        if let Ok(Some((found, position))) = answer {
+            self.position = position;
             return Ok(Some(found));
         }
-        self.standing = self.lent.behind_all(self.haystack, self.span);
+        self.position = self.lent.after_all(self.haystack, self.span);
         answer?;
         Ok(None)
     }
 
-    /// Whether it stands behind all that occurs.
+    /// Whether it is after all occurrences.
     #[tactic(auto, using(crate::proofs::lemmas::LentTables::lengths_many))]
     fn has_ended(&self) -> bool
         ensures { IsTrue result ↔ HasEnded self.now }
     {
         let lent = self.lent;
-        self.standing.at == self.span.end && self.standing.pattern == lent.header.lengths.len()
+        self.position.at == self.span.end && self.position.pattern == lent.header.lengths.len()
     }
 }

@@ -1,17 +1,17 @@
-//! A search for leftmost matches by numbers in an array that its caller lends: written once, and then searched by, with
-//! no memory of its own. It does not trust the array: where a number leads out of it, the search says so.
+//! The search for leftmost matches by an array that its caller lends, without memory of its own. The array is not
+//! trusted: if a number leads out of it, the search answers [`Damaged`].
 ghost use Rattle.std.specs.Prelude.{◌≡◌, ◌+◌, ◌-◌, ◌*◌, ◌<◌, ◌≤◌, ◌↔◌, slice_index};
 ghost use Rattle.std.specs.Prelude.{IfOk, IfSome, IsTrue, MatchResult, None};
 ghost use Rattle.std.specs.Result.{IsOkAnd};
 ghost use Rattle.literal_base.specs.Occurs.{IsValidSpan, between};
 ghost use Rattle.literal_search.specs.SearchValue.{LooksFor, ScansNext, looked_by};
 ghost use Rattle.literal_base.specs.Leftmost.{IsLeftmost};
-ghost use Rattle.literal_search.specs.MatchesValue.{GivesMatch, place_behind};
+ghost use Rattle.literal_search.specs.MatchesValue.{GivesMatch, offset_at_end};
 ghost use Rattle.literal_search.specs.Prepared.{LiesIn, longest_in};
 ghost use Rattle.literal_search.specs.Prepared.{ForPrepared, HasAllParts, IsWhole, matches_for};
 ghost use Rattle.literal_search.specs.Inside.Prepared.{IsBackIn};
 
-use crate::backward::{Backward, GoesOn, LEAST, Marks, no_marks, place_after};
+use crate::backward::{Backward, Continuation, LEAST, Marks, no_marks, offset_after};
 use crate::classes::CLASSES_LEN;
 use crate::prepared::{Damaged, LENGTHS_AT, PREPARED_VERSION, SCAN_LEN, is_checked, split};
 use crate::walk::Table;
@@ -19,8 +19,8 @@ use literal_base::count::Tally;
 use literal_base::{Match, Span};
 use std::marker::Model;
 
-/// A search for leftmost matches by numbers that [`Search::prepare`](crate::Search::prepare) wrote into an array, which
-/// may be longer. Contracts see the array.
+/// Searches for leftmost matches by an array that [`Search::prepare`](crate::Search::prepare) wrote. The array may be
+/// longer. Contracts see the array.
 #[derive(Drop)]
 pub struct Prepared<'p> {
     numbers: &'p [u32],
@@ -39,8 +39,8 @@ impl<'p> Model for Prepared<'p> {
 }
 
 impl<'p> Prepared<'p> {
-    /// The search by the numbers in an array, where its first numbers say that it is one, and it is as long as they
-    /// say. No more of it is read: [`Prepared::is_whole`] goes over all of it.
+    /// Returns the search in an array, or [`Damaged`] if its first numbers are not those of such a search, or if it is
+    /// shorter than they say. It reads only these; [`Prepared::is_whole`] reads all of it.
     pub fn new(numbers: &'p [u32]) -> Result<Prepared<'p>, Damaged>
         ensures { MatchResult result (λ prepared. (prepared ≡ numbers.now) × HasAllParts numbers.now)
             (λ _. ¬ HasAllParts numbers.now) }
@@ -49,10 +49,11 @@ impl<'p> Prepared<'p> {
         Ok(Prepared { numbers, backward })
     }
 
-    /// Whether the check over all numbers of the search is right. It finds each change of one number, unless that
-    /// says how many numbers there are ([`changed_number_is_found`](crate::laws::changed_number_is_found)), an array
-    /// of zeros ([`zeros_are_refused`](crate::laws::zeros_are_refused)), and most other changes, but none that is made
-    /// to pass.
+    /// Returns whether the checksum over all numbers of the search is right. It finds each change of one number, unless
+    /// that is a number that says how many there are
+    /// ([`changed_number_is_found`](crate::laws::changed_number_is_found)), an array of zeros
+    /// ([`zeros_are_refused`](crate::laws::zeros_are_refused)), and most other changes. It does not find a change that
+    /// is made on purpose to pass.
     pub fn is_whole(&self) -> bool
         ensures { IsTrue result ↔ IsWhole self.now }
     {
@@ -65,17 +66,16 @@ impl<'p> Prepared<'p> {
         is_checked(self.numbers, end)
     }
 
-    /// How many bytes the longest pattern has, by the numbers.
+    /// Returns the length in bytes of the longest pattern, as the array says.
     pub fn max_pattern_len(&self) -> usize
         ensures { result ≡ longest_in self.now }
     {
         self.backward().table.longest
     }
 
-    /// All matches in a span of the haystack, one after another, for which the same holds as for
-    /// [`Search::find_iter_in`](crate::Search::find_iter_in). With numbers that were changed it may give others, or
-    /// [`Damaged`]; but each lies in the span, is not empty, begins behind the one before it, and names one of the
-    /// patterns.
+    /// Returns an iterator over all matches in a span of the haystack, as
+    /// [`Search::find_iter_in`](crate::Search::find_iter_in) does. With a changed array it may give other matches, or
+    /// [`Damaged`]. But each lies in the span, is not empty, begins after the previous one, and names a pattern.
     pub fn find_iter_in<'s, 'h>(
         &'s self,
         haystack: &'h [u8],
@@ -101,9 +101,9 @@ impl<'p> Prepared<'p> {
         }
     }
 
-    /// The leftmost match in a span of the haystack, for which the same holds as for
-    /// [`Search::find_in`](crate::Search::find_in). With numbers that were changed it may be another, or [`Damaged`];
-    /// but it lies in the span, is not empty, and names one of the patterns.
+    /// Returns the leftmost match in a span of the haystack, as [`Search::find_in`](crate::Search::find_in) does. With
+    /// a changed array the answer may be another match, or [`Damaged`]. But a match lies in the span, is not empty, and
+    /// names one of the patterns.
     pub fn find_in(&self, haystack: &[u8], span: Span) -> Result<Option<Match>, Damaged>
         requires { IsValidSpan haystack.now span }
         ensures prepared { ForPrepared self.now (λ search. IsOkAnd result
@@ -115,9 +115,9 @@ impl<'p> Prepared<'p> {
         self.find_in_counted(haystack, span, &mut Tally::new())
     }
 
-    /// Answers as [`Prepared::find_in`], and adds each byte that it looks up to a tally, as scanned: at most
-    /// three times the bytes of the span, whatever the numbers are, and the rest as
-    /// [`Search::find_in_counted`](crate::Search::find_in_counted).
+    /// Like [`Prepared::find_in`], and counts each looked-up byte in the tally, as scanned: with any array, at most
+    /// three times the bytes of the span. The other bounds of
+    /// [`Search::find_in_counted`](crate::Search::find_in_counted) hold too.
     pub fn find_in_counted(
         &self,
         haystack: &[u8],
@@ -138,7 +138,7 @@ impl<'p> Prepared<'p> {
         self.backward().find_in(haystack, span, tally)
     }
 
-    /// What a search from the right reads.
+    /// The parts that a backward walk reads.
     #[inline(always)]
     pub(crate) fn backward(&self) -> &Backward<'p>
         ensures { IsBackIn self.now result.now }
@@ -147,8 +147,8 @@ impl<'p> Prepared<'p> {
     }
 }
 
-/// What a search from the right reads of an array, where its first numbers say that it is one, and it is as long as
-/// they say.
+/// The parts of an array that a backward walk reads, or [`Damaged`] if its first numbers are not those of such a
+/// search, or if it is shorter than they say.
 pub(crate) fn backward_in(numbers: &[u32]) -> Result<Backward<'_>, Damaged>
     ensures { MatchResult result (IsBackIn numbers.now) (λ _. ¬ HasAllParts numbers.now) }
 {
@@ -171,9 +171,9 @@ pub(crate) fn backward_in(numbers: &[u32]) -> Result<Backward<'_>, Damaged>
     })
 }
 
-/// What [`Prepared::find_iter_in`] goes over. Contracts see the array, the haystack, the span, the place from
-/// which the list goes on, and up to which place it has looked. After [`Damaged`], or its first `None`, it stands at
-/// the end of the span, and has ended.
+/// The iterator of [`Prepared::find_iter_in`]. Contracts see the array, the haystack, the span, the offset from which
+/// it continues, and the offset up to which it has looked. After [`Damaged`] or its first `None` it has ended, at the
+/// end of the span.
 #[derive(Drop)]
 pub struct PreparedMatches<'s, 'p, 'h> {
     prepared: &'s Prepared<'p>,
@@ -204,15 +204,15 @@ impl<'s, 'p, 'h> Model for PreparedMatches<'s, 'p, 'h> {
 }
 
 impl<'s, 'p, 'h> PreparedMatches<'s, 'p, 'h> {
-    /// The next match, as [`Matches`](crate::Matches) gives them, and `None` behind the last. With numbers
-    /// that were changed each still begins behind the one before it; after `None` or [`Damaged`] there is only `None`.
+    /// Returns the next match, as [`Matches`](crate::Matches) does, or `None` after the last. With a changed array,
+    /// each match still begins after the previous one. After `None` or [`Damaged`] it always answers `None`.
     pub fn next_match(&mut self) -> Result<Option<Match>, Damaged>
         ensures prepared { ForPrepared self.old.numbers (λ search. IsOkAnd result (λ answer.
             GivesMatch (matches_for search self.old) answer (matches_for search self.new))) }
         ensures inside { IfOk result (λ answer. IfSome answer (LiesIn (between self.old.at self.old.span.end))) }
         ensures pattern { IfOk result (λ answer. IfSome answer
             (λ found. found.pattern < slice_index self.old.numbers 3)) }
-        ensures goes_on { MatchResult result (λ answer. self.new.at ≡ place_behind self.old.span answer)
+        ensures goes_on { MatchResult result (λ answer. self.new.at ≡ offset_at_end self.old.span answer)
             (λ _. (self.new.at ≡ self.old.span.end) × (self.new.known ≡ self.old.span.end)) }
         ensures ended { self.old.at ≡ self.old.span.end → IsOkAnd result (λ answer. answer ≡ None) }
         ensures same { self.new ≡ record self.old { at = self.new.at; known = self.new.known } }
@@ -220,23 +220,23 @@ impl<'s, 'p, 'h> PreparedMatches<'s, 'p, 'h> {
         self.next_counted(&mut Tally::new())
     }
 
-    /// Answers as `next_match`, and adds each byte that it looks up to a tally, as
-    /// [`Matches::next_counted`](crate::Matches::next_counted) does. A whole iteration looks up at most three times the
-    /// bytes of the span, whatever the other numbers are, if by the numbers no pattern has more than 1,024 bytes.
+    /// Like `next_match`, and counts in the tally as [`Matches::next_counted`](crate::Matches::next_counted) does. If
+    /// the array says that no pattern has more than 1,024 bytes, an iteration looks up at most three times the bytes of
+    /// the span, whatever the other numbers are.
     pub fn next_counted(&mut self, tally: &mut Tally) -> Result<Option<Match>, Damaged>
         ensures prepared { ForPrepared self.old.numbers (λ search. IsOkAnd result (λ answer.
             GivesMatch (matches_for search self.old) answer (matches_for search self.new))) }
         ensures inside { IfOk result (λ answer. IfSome answer (LiesIn (between self.old.at self.old.span.end))) }
         ensures pattern { IfOk result (λ answer. IfSome answer
             (λ found. found.pattern < slice_index self.old.numbers 3)) }
-        ensures goes_on { MatchResult result (λ answer. self.new.at ≡ place_behind self.old.span answer)
+        ensures goes_on { MatchResult result (λ answer. self.new.at ≡ offset_at_end self.old.span answer)
             (λ _. (self.new.at ≡ self.old.span.end) × (self.new.known ≡ self.old.span.end)) }
         ensures ended { self.old.at ≡ self.old.span.end → IsOkAnd result (λ answer. answer ≡ None) }
         ensures same { self.new ≡ record self.old { at = self.new.at; known = self.new.known } }
         ensures further { (self.old.known ≤ self.new.known) × (self.new.known ≤ self.old.span.end) }
         ensures others { tally.new ≡ record tally.old { scanned = tally.new.scanned } }
         ensures most { tally.new.scanned ≤ tally.old.scanned + 3 * (self.old.span.end - self.old.known) }
-        ensures looked { IfOk result (λ answer. place_behind self.old.span answer
+        ensures looked { IfOk result (λ answer. offset_at_end self.old.span answer
             ≤ looked_by (longest_in self.old.numbers) self.old.span self.new.known) }
         ensures scans { IfOk result (λ answer. ScansNext (longest_in self.old.numbers) self.old.span self.old.at
             self.old.known self.new.known answer tally.old tally.new) }
@@ -246,14 +246,14 @@ impl<'s, 'p, 'h> PreparedMatches<'s, 'p, 'h> {
             self.haystack,
             span,
             self.at,
-            GoesOn::AtEnd,
+            Continuation::AtEnd,
             &mut self.numbers,
             &mut self.marks,
             tally,
         );
         match answer {
             Ok(answer) => {
-                self.at = place_after(GoesOn::AtEnd, span, &answer);
+                self.at = offset_after(Continuation::AtEnd, span, &answer);
                 Ok(answer)
             }
             Err(_) => {

@@ -1,4 +1,4 @@
-//! Searches by a lent array in texts of which more may follow.
+//! Searches by a lent array in texts that may continue.
 ghost use Rattle.std.specs.Prelude.{◌≡◌, ◌+◌, ◌-◌, ◌*◌, ◌≤◌, ◌++◌, ℕ, List, IfOk, length, slice_index};
 ghost use Rattle.std.specs.Result.{IsOkAnd};
 ghost use Rattle.literal_search.specs.Prepared.{ForPrepared, longest_in};
@@ -11,11 +11,10 @@ use literal_base::Span;
 use literal_base::count::Tally;
 
 impl<'p> Prepared<'p> {
-    /// What is known of the leftmost match in a text, from a place on, where the haystack is its beginning and anything
-    /// may follow, as [`Search::find_so_far`](crate::Search::find_so_far) tells it. With numbers that were changed it
-    /// may be something else, or [`Damaged`]; but a match lies in the haystack from that place on, is not empty, and
-    /// names one of the patterns, and a place lies there too. The place from which it searches has to be at most the
-    /// haystack's length.
+    /// Returns what is known of the leftmost match from an offset on, where the haystack is the beginning of a text and
+    /// anything may follow, as [`Search::find_so_far`](crate::Search::find_so_far) does. With a changed array the
+    /// answer may be another one, or [`Damaged`]. But a match lies in the haystack from `at` on, is not empty, and
+    /// names one of the patterns, and a returned offset lies there too. `at` has to be at most the haystack's length.
     pub fn find_so_far(&self, haystack: &[u8], at: usize) -> Result<SoFar, Damaged>
         requires { at ≤ length haystack.now }
         ensures whatever_follows { ForPrepared self.now (λ search. (more : List ℕ) → IsOkAnd result
@@ -28,9 +27,9 @@ impl<'p> Prepared<'p> {
         Ok(so_far(haystack, at, self.max_pattern_len(), found))
     }
 
-    /// Answers as [`Prepared::find_so_far`], and adds each byte that it looks up to a tally, as scanned: at most three
-    /// times as many as there are from where it begins, and the rest as
-    /// [`Search::find_so_far_counted`](crate::Search::find_so_far_counted), whatever the numbers are.
+    /// Like [`Prepared::find_so_far`], and counts each looked-up byte in the tally, as scanned: with any array, at most
+    /// three times the bytes from `at` on. The other bounds of
+    /// [`Search::find_so_far_counted`](crate::Search::find_so_far_counted) hold too.
     pub fn find_so_far_counted(
         &self,
         haystack: &[u8],

@@ -1,15 +1,15 @@
-//! The search for whole words by numbers in an array that its caller lends, with no memory of its own. It does not
-//! trust the array: where a number leads out of it, the search says so.
+//! The search for whole words by an array that its caller lends, without memory of its own. The array is not trusted:
+//! if a number leads out of it, the search answers [`Damaged`].
 ghost use Rattle.std.specs.Prelude.{◌≡◌, ◌<◌, ◌≤◌, IfOk, IfSome, MatchResult, None, slice_index};
 ghost use Rattle.std.specs.Result.{IsOkAnd};
 ghost use Rattle.literal_base.specs.Occurs.{IsValidSpan, between};
-ghost use Rattle.literal_search.specs.MatchesValue.{place_behind, place_further};
+ghost use Rattle.literal_search.specs.MatchesValue.{offset_after_start, offset_at_end};
 ghost use Rattle.literal_search.specs.Prepared.{LiesIn, longest_in};
 ghost use Rattle.literal_search.specs.PreparedWords.{ForWholeWords, word_matches_by};
 ghost use Rattle.literal_search.specs.WholeWords.{GivesWholeWord, IsFirstAlone, ScansFirstWordBy, ScansWordsAtMost};
 ghost use Rattle.literal_search.specs.WholeWords.{ScansWordsBy};
 
-use crate::backward::{GoesOn, place_after};
+use crate::backward::{Continuation, offset_after};
 use crate::prepared::Damaged;
 use crate::prepared_search::Prepared;
 use crate::word_search::{KnownStarts, Words};
@@ -19,11 +19,11 @@ use literal_base::packed::MatchKind;
 use literal_base::{Match, Span};
 use std::marker::Model;
 
-/// A search for whole words by an array that [`Search::prepare`](crate::Search::prepare) wrote: for it all holds that
-/// holds for [`WholeWords`](crate::WholeWords). The search that wrote it has to be of
-/// [`MatchKind::LeftmostLongest`], whatever the kind is by which words are taken. With an array of the other kind, or
-/// one that was changed, words may be missing, and the answer may be [`Damaged`]; but each match lies in the span, is
-/// not empty, and names one of the patterns. Contracts see the kind, the array, and which bytes are word bytes.
+/// Searches for whole words by an array that [`Search::prepare`](crate::Search::prepare) wrote. It answers as
+/// [`WholeWords`](crate::WholeWords) does. The search that wrote the array has to have [`MatchKind::LeftmostLongest`],
+/// whatever the match kind of the words is. With an array of the other kind, or a changed one, the answer may be
+/// another match, none, or [`Damaged`]; but each match lies in the span, is not empty, and names one of the patterns.
+/// Contracts see the match kind, the array, and which bytes are word bytes.
 ///
 /// ```rust
 /// let patterns = [b"york".as_slice()];
@@ -51,7 +51,7 @@ impl<'p> Model for PreparedWords<'p> {
 }
 
 impl<'p> PreparedWords<'p> {
-    /// The search for whole words by a prepared search, by this kind of match, and with these word bytes.
+    /// Returns the search for whole words by a prepared search, with this match kind and these word bytes.
     pub fn new(prepared: Prepared<'p>, kind: MatchKind, word_bytes: ByteSet) -> PreparedWords<'p>
         ensures { result ≡ record { kind = kind; numbers = prepared.entry; word_bytes = word_bytes } }
     {
@@ -62,8 +62,8 @@ impl<'p> PreparedWords<'p> {
         }
     }
 
-    /// The leftmost whole word in a span of the haystack, as [`WholeWords::find_in`](crate::WholeWords::find_in)
-    /// answers it.
+    /// Returns the leftmost whole word in a span of the haystack, as
+    /// [`WholeWords::find_in`](crate::WholeWords::find_in) does.
     pub fn find_in(&self, haystack: &[u8], span: Span) -> Result<Option<Match>, Damaged>
         requires { IsValidSpan haystack.now span }
         ensures prepared { ForWholeWords self.now (λ words. IsOkAnd result (IsFirstAlone words haystack.now span)) }
@@ -74,9 +74,9 @@ impl<'p> PreparedWords<'p> {
         self.find_in_counted(haystack, span, &mut Tally::new())
     }
 
-    /// Answers as [`PreparedWords::find_in`], and adds each byte that it looks up to a tally, as scanned: as many as
-    /// [`WholeWords::find_in_counted`](crate::WholeWords::find_in_counted) may look up with patterns of at most the
-    /// length that the array gives as the longest, whatever the other numbers are.
+    /// Like [`PreparedWords::find_in`], and counts each looked-up byte in the tally, as scanned. With any array, the
+    /// bounds are those of [`WholeWords::find_in_counted`](crate::WholeWords::find_in_counted), with the longest
+    /// pattern length that the array gives.
     pub fn find_in_counted(
         &self,
         haystack: &[u8],
@@ -97,8 +97,8 @@ impl<'p> PreparedWords<'p> {
         words.find_in(haystack, span, tally)
     }
 
-    /// All whole words in a span of the haystack, one after another, as
-    /// [`WholeWords::find_iter_in`](crate::WholeWords::find_iter_in) gives them.
+    /// Returns an iterator over all whole words in a span of the haystack, as
+    /// [`WholeWords::find_iter_in`](crate::WholeWords::find_iter_in) does.
     pub fn find_iter_in<'s, 'h>(
         &'s self,
         haystack: &'h [u8],
@@ -125,9 +125,9 @@ impl<'p> PreparedWords<'p> {
     }
 }
 
-/// What [`PreparedWords::find_iter_in`] goes over. Contracts see the search, the haystack, the span, the place from
-/// which the list goes on, the place from which it looks for the next pattern, and up to which place it has looked.
-/// After [`Damaged`], or its first `None`, the first two of these places are the end of the span, and it has ended.
+/// The iterator of [`PreparedWords::find_iter_in`]. Contracts see the search, the haystack, the span, the offset from
+/// which it continues, the offset from which it looks for the next pattern, and the offset up to which it has looked.
+/// After [`Damaged`] or its first `None`, the first two of these offsets are the end of the span, and it has ended.
 #[derive(Drop)]
 pub struct PreparedWordMatches<'s, 'p, 'h> {
     prepared: &'s PreparedWords<'p>,
@@ -159,9 +159,9 @@ impl<'s, 'p, 'h> Model for PreparedWordMatches<'s, 'p, 'h> {
 }
 
 impl<'s, 'p, 'h> PreparedWordMatches<'s, 'p, 'h> {
-    /// The next whole word, as [`WholeWordMatches`](crate::WholeWordMatches) gives them, and `None` after the last.
-    /// With an array that was changed each still begins after the one before it; after `None` or [`Damaged`] there is
-    /// only `None`.
+    /// Returns the next whole word, as [`WholeWordMatches`](crate::WholeWordMatches) does, or `None` after the last.
+    /// With a changed array, each match still begins after the previous one. After `None` or [`Damaged`] it always
+    /// answers `None`.
     pub fn next_match(&mut self) -> Result<Option<Match>, Damaged>
         ensures prepared { ForWholeWords self.old.words (λ words. IsOkAnd result (λ answer.
             GivesWholeWord (word_matches_by self.old words) answer (word_matches_by self.new words))) }
@@ -169,8 +169,8 @@ impl<'s, 'p, 'h> PreparedWordMatches<'s, 'p, 'h> {
         ensures pattern { IfOk result (λ answer. IfSome answer
             (λ found. found.pattern < slice_index self.old.words.numbers 3)) }
         ensures goes_on { MatchResult result
-            (λ answer. (self.new.at ≡ place_behind self.old.span answer)
-            × (self.new.from ≡ place_further self.old.span answer))
+            (λ answer. (self.new.at ≡ offset_at_end self.old.span answer)
+            × (self.new.from ≡ offset_after_start self.old.span answer))
             (λ _. (self.new.at ≡ self.old.span.end) × (self.new.from ≡ self.old.span.end)) }
         ensures ended { self.old.from ≡ self.old.span.end → IsOkAnd result (λ answer. answer ≡ None) }
         ensures same { self.new
@@ -179,7 +179,7 @@ impl<'s, 'p, 'h> PreparedWordMatches<'s, 'p, 'h> {
         self.next_counted(&mut Tally::new())
     }
 
-    /// Answers as `next_match`, and adds each byte that it looks up to a tally, as
+    /// Like `next_match`, and counts in the tally as
     /// [`WholeWordMatches::next_counted`](crate::WholeWordMatches::next_counted) does.
     pub fn next_counted(&mut self, tally: &mut Tally) -> Result<Option<Match>, Damaged>
         ensures prepared { ForWholeWords self.old.words (λ words. IsOkAnd result (λ answer.
@@ -188,8 +188,8 @@ impl<'s, 'p, 'h> PreparedWordMatches<'s, 'p, 'h> {
         ensures pattern { IfOk result (λ answer. IfSome answer
             (λ found. found.pattern < slice_index self.old.words.numbers 3)) }
         ensures goes_on { MatchResult result
-            (λ answer. (self.new.at ≡ place_behind self.old.span answer)
-            × (self.new.from ≡ place_further self.old.span answer))
+            (λ answer. (self.new.at ≡ offset_at_end self.old.span answer)
+            × (self.new.from ≡ offset_after_start self.old.span answer))
             (λ _. (self.new.at ≡ self.old.span.end) × (self.new.from ≡ self.old.span.end)) }
         ensures ended { self.old.from ≡ self.old.span.end → IsOkAnd result (λ answer. answer ≡ None) }
         ensures same { self.new
@@ -207,7 +207,7 @@ impl<'s, 'p, 'h> PreparedWordMatches<'s, 'p, 'h> {
             .next_word(haystack, span, at, &mut self.starts, tally)
         {
             Ok(answer) => {
-                self.at = place_after(GoesOn::AtEnd, span, &answer);
+                self.at = offset_after(Continuation::AtEnd, span, &answer);
                 Ok(answer)
             }
             Err(_) => {

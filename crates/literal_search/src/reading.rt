@@ -1,4 +1,4 @@
-//! How far the reading of a text has come.
+//! The progress of reading a text.
 ghost use Rattle.std.specs.Prelude.{◌≡◌, ◌==◌, ◌<◌, ◌≤◌, ◌↔◌, IsTrue, List, MatchResult, None, Ok, Option, Some, ℕ};
 ghost use Rattle.std.specs.Prelude.{false, length, take};
 ghost use Rattle.std.specs.Io.KnownBytes.{Consumes, IsAtEnd};
@@ -8,7 +8,7 @@ ghost use Rattle.literal_search.specs.Inside.Stream.{IsOpen, IsSoundReading};
 
 use std::io::{self, ErrorKind, Read};
 
-/// Whether all of a text was read, and how reading it failed, if it did. Only a call that reads sets these.
+/// Whether all of a text was read, and the error if reading failed. Only a call that reads changes this.
 #[derive(Drop)]
 pub(crate) struct Reading {
     is_whole: bool,
@@ -18,7 +18,7 @@ pub(crate) struct Reading {
 }
 
 impl Reading {
-    /// Nothing was read.
+    /// Nothing was read yet.
     pub(crate) fn new() -> Reading
         ensures { result ≡ record { is_whole = false; failure = None; error = None } }
     {
@@ -29,7 +29,7 @@ impl Reading {
         }
     }
 
-    /// Whether all was read.
+    /// Whether the whole text was read.
     pub(crate) fn is_whole(&self) -> bool
         ensures { result ≡ self.now.is_whole }
     {
@@ -43,7 +43,7 @@ impl Reading {
         !self.is_whole && self.error.is_none()
     }
 
-    /// Reads some bytes of the text, and none where it is over or reading fails. There has to be room for one.
+    /// Reads some bytes of the text, or none if it has ended or reading fails. There has to be room for one.
     pub(crate) fn read<R: Read>(&mut self, reader: &mut R, bytes: &mut [u8]) -> usize
         requires open { IsOpen self.old }
         requires no_failure { self.old.failure ≡ None }
@@ -57,7 +57,7 @@ impl Reading {
         self.take_in(answer)
     }
 
-    /// A `usize` counts no more of the text than these bytes, so reading fails.
+    /// Fails, since a `usize` cannot count more of the text than these bytes.
     pub(crate) fn stop(&mut self, counted: usize)
         requires open { IsOpen self.old }
         requires no_failure { self.old.failure ≡ None }
@@ -69,7 +69,7 @@ impl Reading {
         self.take_in(Err(io::Error::from(ErrorKind::FileTooLarge)));
     }
 
-    /// How many bytes a read gave that answered so: none is the end, and an error is kept until it is given.
+    /// The number of bytes that a read gave. If it is 0, the text has ended. An error is kept until it is given.
     fn take_in(&mut self, answer: io::Result<usize>) -> usize
         requires open { IsOpen self.old }
         requires no_failure { self.old.failure ≡ None }

@@ -1,11 +1,13 @@
-//! Every match replaced by what is given for its pattern.
-ghost use Rattle.std.specs.Prelude.{◌<◌, IfErr, IfOk, OnErr, length, map, string_bytes};
+//! Replaces each match by the replacement of its pattern, or by what a function writes.
+ghost use Rattle.std.specs.Prelude.{◌≡◌, ◌+◌, ◌*◌, ◌<◌, ◌≤◌, IfErr, IfOk, OnErr, length, map, string_bytes};
 ghost use Rattle.std.specs.List.{All};
 ghost use Rattle.std.specs.Str.{IsUtf8};
 ghost use Rattle.literal_search.specs.Replaced.{AreWordsReplaced, AreWordsWritten, IsReplaced, IsWritten};
 ghost use Rattle.literal_search.specs.Replaced.{RefusesToReplace, RefusesToReplaceWords};
+ghost use Rattle.literal_search.specs.SearchValue.{ScansListAtMost, longest_of};
+ghost use Rattle.literal_search.specs.declared.backward.TheConstants.{LEAST};
 
-use crate::{Match, Search, WholeWords};
+use crate::{Match, Search, Span, Tally, WholeWords};
 use std::alloc::{AllocError, Global};
 use std::error::Error;
 use std::fmt;
@@ -13,13 +15,13 @@ use std::fmt;
 /// Why matches are not replaced.
 #[derive(Clone, Copy, Debug, PartialEq, Eq, Drop)]
 pub enum ReplaceError {
-    /// There are not as many replacements as patterns.
+    /// The number of replacements is not the number of patterns.
     NotOneForEach,
     /// Memory was refused.
     OutOfMemory,
 }
 
-/// What is wrong, in a few words.
+/// A short message.
 impl fmt::Display for ReplaceError {
     ghost use Rattle.std.specs.Prelude.{Some};
     ghost use Rattle.literal_search.specs.ErrorText.{replace_error_text};
@@ -52,9 +54,9 @@ impl From<AllocError> for ReplaceError {
 }
 
 impl Search {
-    /// The haystack with each match of [`Search::find_iter`] replaced by what is given for its pattern, and as it is
-    /// between them. There has to be one replacement for each pattern, in their order, else the answer is
-    /// [`ReplaceError::NotOneForEach`]; it may be empty. Memory is asked for only where the answer is not empty.
+    /// Returns the haystack with each match of [`Search::find_iter`] replaced by the replacement of its pattern. There
+    /// has to be one replacement for each pattern, in the order of their numbers; otherwise the error is
+    /// [`ReplaceError::NotOneForEach`]. A replacement may be empty. Allocates only if the answer is not empty.
     ///
     /// ```rust
     /// let words = [b"apple".as_slice(), b"maple"];
@@ -73,12 +75,38 @@ impl Search {
         ensures error { IfErr result
             (RefusesToReplace self.now haystack.now (map (λ r. r.now) replacements.now)) }
     {
+        self.replace_all_counted(alloc, haystack, replacements, &mut Tally::new())
+    }
+
+    /// Like [`Search::replace_all`], and counts each looked-up byte in the tally, as scanned: at least the bytes of the
+    /// haystack, and at most three times as many if no pattern has more than 1,024 bytes. With a longer pattern, it is
+    /// at most eleven times as many, plus 36 times the first part for each match ([`Search::find_in_counted`]). If
+    /// memory is refused, it may be fewer.
+    pub fn replace_all_counted(
+        &self,
+        alloc: Global,
+        haystack: &[u8],
+        replacements: &[&[u8]],
+        tally: &mut Tally,
+    ) -> Result<Vec<u8>, ReplaceError>
+        ensures ok { IfOk result
+            (λ text. (is : IsReplaced self.now haystack.now (map (λ r. r.now) replacements.now) text.items)
+            × (tally.old.scanned + length haystack.now ≤ tally.new.scanned)
+            × ScansListAtMost self.now.query.patterns (length haystack.now) (length is.matches) tally.old tally.new) }
+        ensures error { IfErr result
+            (RefusesToReplace self.now haystack.now (map (λ r. r.now) replacements.now)) }
+        ensures others { tally.new ≡ record tally.old { scanned = tally.new.scanned } }
+        ensures bounded { longest_of self.now.query.patterns ≤ LEAST
+            → tally.new.scanned ≤ tally.old.scanned + 3 * length haystack.now }
+    {
         if replacements.len() != self.patterns_len() {
             return Err(ReplaceError::NotOneForEach);
         }
         let mut text = Vec::new(alloc);
         let mut at = 0;
-        for found in self.find_iter(haystack) {
+        let end = haystack.len();
+        let mut matches = self.find_iter_in(haystack, Span { start: 0, end });
+        while let Some(found) = matches.next_counted(tally) {
             text.extend_from_slice(&haystack[at..found.start()])?;
             text.extend_from_slice(replacements[found.pattern().as_usize()])?;
             at = found.end();
@@ -87,10 +115,10 @@ impl Search {
         Ok(text)
     }
 
-    /// The text with each match replaced by what is given for its pattern: [`Search::replace_all`] of texts. The
-    /// patterns have to be texts too, in UTF-8; then each match begins and ends between characters
+    /// Returns the text with each match replaced by the replacement of its pattern, as [`Search::replace_all`] does.
+    /// The patterns have to be valid UTF-8 too. Then each match begins and ends between characters
     /// ([`laws::matches_of_texts_lie_between_characters`](crate::laws::matches_of_texts_lie_between_characters)), and
-    /// no bytes are checked anew. Memory is asked for only where the answer is not empty.
+    /// the result is not validated again. Allocates only if the answer is not empty.
     pub fn replace_all_str(
         &self,
         alloc: Global,
@@ -117,10 +145,10 @@ impl Search {
         Ok(text)
     }
 
-    /// The haystack with each match of [`Search::find_iter`] replaced by what a call writes for it, and as it is
-    /// between them. The function is called for one match after another, with the match, its bytes, and the text that
-    /// is written up to there. It may ask nothing of these. Where memory is refused, to a call or here, the answer is
-    /// that error; for an empty haystack it never is.
+    /// Returns the haystack with each match of [`Search::find_iter`] replaced by what a function writes for it. The
+    /// function is called for one match after another, with the match, its bytes, and the text written so far. It has
+    /// to accept any such arguments. If memory is refused, in a call or here, it returns that error, but never for an
+    /// empty haystack.
     ///
     /// ```rust
     /// let search = Search::builder().build(alloc, [b"apple".as_slice(), b"maple"])?;
@@ -154,9 +182,9 @@ impl Search {
 }
 
 impl WholeWords {
-    /// The haystack with each whole word of [`WholeWords::find_iter`] replaced by what is given for its pattern, and as
-    /// it is between them. There has to be one replacement for each pattern, in their order, else the answer is
-    /// [`ReplaceError::NotOneForEach`]; it may be empty. Memory is asked for only where the haystack is not empty.
+    /// Returns the haystack with each whole word of [`WholeWords::find_iter`] replaced by the replacement of its
+    /// pattern. There has to be one replacement for each pattern, in the order of their numbers; otherwise the error is
+    /// [`ReplaceError::NotOneForEach`]. A replacement may be empty. Allocates only if the answer is not empty.
     pub fn replace_all(
         &self,
         alloc: Global,
@@ -181,9 +209,10 @@ impl WholeWords {
         text.extend_from_slice(&haystack[at..])?;
         Ok(text)
     }
-    /// The haystack with each whole word of [`WholeWords::find_iter`] replaced by what a call writes for it, and as it
-    /// is between them. The calls are as of [`Search::replace_all_with`]. Where memory is refused, to a call or here,
-    /// the answer is that error; for an empty haystack it never is.
+
+    /// Returns the haystack with each whole word of [`WholeWords::find_iter`] replaced by what a function writes for
+    /// it, called as in [`Search::replace_all_with`]. If memory is refused, in a call or here, it returns that error,
+    /// but never for an empty haystack.
     pub fn replace_all_with<F: FnMut(Match, &[u8], &mut Vec<u8>) -> Result<(), AllocError>>(
         &self,
         alloc: Global,

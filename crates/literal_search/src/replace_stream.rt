@@ -1,4 +1,4 @@
-//! Every match in a text that is read piece by piece replaced, and the text written as far as it is known.
+//! Replaces each match in a text that is read in pieces, and writes the result as far as it is known.
 ghost use Rattle.std.specs.Prelude.{◌≡◌, ◌≤◌, [], Err, IfErr, IfOk, MatchResult, None, Ok, OnOk, length, map};
 ghost use Rattle.std.specs.Io.KnownBytes.{Appends};
 ghost use Rattle.literal_search.specs.Replaced.{RewritesAll, StopsRewriting};
@@ -20,17 +20,17 @@ use std::io::{self, ErrorKind, Read, Write};
 /// Why a text was not read to its end and written with its matches replaced.
 #[derive(Debug, Drop)]
 pub enum ReplaceStreamError {
-    /// There are not as many replacements as patterns. Nothing was read or written.
+    /// The number of replacements is not the number of patterns. Nothing was read or written.
     NotOneForEach,
     /// Memory was refused. Nothing was read or written.
     OutOfMemory,
-    /// The reader failed, or a `usize` counts no more of the text ([`io::ErrorKind::FileTooLarge`]).
+    /// The reader failed, or a `usize` cannot count more of the text ([`io::ErrorKind::FileTooLarge`]).
     ReadFailed(io::Error),
-    /// The writer failed, or took no more.
+    /// The writer failed, or accepted no more bytes.
     WriteFailed(io::Error),
 }
 
-/// What is wrong, in a few words.
+/// A short message.
 impl fmt::Display for ReplaceStreamError {
     ghost use Rattle.std.specs.Prelude.{Some};
     ghost use Rattle.literal_search.specs.ErrorText.{replace_stream_error_text};
@@ -65,15 +65,15 @@ impl From<AllocError> for ReplaceStreamError {
 }
 
 impl Search {
-    /// Reads a text to its end, and writes it with each match replaced by what is given for its pattern: what
-    /// [`Search::replace_all`] answers of the whole text, whatever pieces it comes in. There has to be one replacement
-    /// for each pattern, in their order. Of the text it keeps twice as many bytes as the longest pattern has, and a
-    /// block of 64 KiB, or as long as the longest pattern. The writer is not flushed.
+    /// Reads a text to its end, and writes it with each match replaced by the replacement of its pattern. It writes
+    /// what [`Search::replace_all`] returns for the whole text, whatever pieces it comes in. There has to be one
+    /// replacement for each pattern, in the order of their numbers. The buffer has twice the longest pattern's length,
+    /// plus 64 KiB or that length, whichever is more. The writer is not flushed.
     ///
-    /// Where reading fails, what is known of the bytes that were read is written before the error is answered: all but
-    /// the last of them, one less than the longest pattern has at most, and no more than the replacement of the whole
-    /// text begins with, whatever follows. Where writing fails, of the bytes of one write it is not known how many
-    /// were written.
+    /// If reading fails, the part of the result that is known is written before the error is returned. It covers the
+    /// bytes that were read, except at most the last ones, fewer than the longest pattern has. The result for the whole
+    /// text begins with this part, whatever follows. If a write fails, it is not known how many of its bytes were
+    /// written.
     ///
     /// ```rust
     /// let words = [b"apple".as_slice(), b"maple"];
@@ -112,8 +112,8 @@ impl Search {
     }
 }
 
-/// Reads a text through an empty window, and writes it with its matches replaced. It also tells of what kind the error
-/// is with which writing failed.
+/// Reads a text through an empty window, and writes it with its matches replaced. If writing fails, `failure` is the
+/// kind of the error.
 fn rewrite<R: Read, W: Write>(
     search: &Search,
     window: &mut Window,
@@ -147,7 +147,7 @@ fn rewrite<R: Read, W: Write>(
     }
 }
 
-/// Writes what is held up to where this is known of it, a match by its replacement, and answers how many bytes that is.
+/// Writes the held bytes as far as they are known, with a match replaced. Returns how many held bytes these are.
 fn write_known<W: Write>(
     window: &Window,
     known: &SoFar,
@@ -169,9 +169,9 @@ fn write_known<W: Write>(
             put(replacements[found.pattern().as_usize()], writer, failure)?;
             Ok(found.end())
         }
-        SoFar::NoneBefore(place) => {
-            put(&window.held()[..*place], writer, failure)?;
-            Ok(*place)
+        SoFar::NoneBefore(offset) => {
+            put(&window.held()[..*offset], writer, failure)?;
+            Ok(*offset)
         }
     }
 }
@@ -189,7 +189,7 @@ fn put<W: Write>(
     after_write(answer, failure)
 }
 
-/// What a write answers that ended so.
+/// The answer after a write with this result.
 fn after_write(
     answer: io::Result<()>,
     failure: &mut Option<ErrorKind>,

@@ -1,5 +1,5 @@
-//! Bytes with which nothing begins are passed over: by a scan for candidates, or else by four walks at once.
-//! `Table::pass_over` and `Table::can_pass` decide which.
+//! Passes over bytes where no pattern begins, by a scan for candidates or by four walks at once. `Table::pass_over` and
+//! `Table::can_pass` decide which.
 ghost use Rattle.std.specs.Prelude.{◌≡◌, ◌+◌, ◌-◌, ◌*◌, ◌<◌, ◌≤◌, ◌^◌};
 ghost use Rattle.std.specs.Prelude.{IfOk, IfSome, None, false, length, true};
 ghost use Rattle.std.specs.Result.{IsOkAnd};
@@ -17,35 +17,39 @@ use literal_base::Span;
 use literal_base::count::Tally;
 use literal_fingerprints::CandidateScan;
 
-/// How long the first blocks are through which four walks go, if no pattern is longer than half of this, and the last.
+// No answer depends on these constants, only the time.
+
+/// The length of the first blocks of four walks, if no pattern is longer than half of it. Blocks double up to
+/// `LAST_BLOCK`.
 const FIRST_BLOCK: usize = 128;
 
+/// A block of at least this length is not followed by a longer one.
 const LAST_BLOCK: usize = 1024;
 
-/// How far one walk goes at least before candidates are scanned for: half as far as a scan reads in vain.
+/// The least distance of one walk before a scan for candidates: half of what a scan reads in vain.
 const NEAR: usize = 8;
 
-/// How many blocks are gone through by one walk before four begin: a match that is near then costs as much as ever.
+/// How many blocks one walk covers before four walks begin, so that a near match costs no more than by one walk.
 const BLOCKS_NEAR: usize = 3;
 
-/// How long a pattern may be for four walks to begin.
+/// The largest pattern length with which four walks are used.
 const LONGEST: usize = 1 << 16;
 
-/// Where so few bytes were passed over, one walk goes twice as far before it is tried again, and so far at most.
+/// If a pass covers fewer bytes than this, the next walk before a pass is twice as long, at most `FARTHEST`.
 const FEW: usize = 8;
 
+/// The largest distance of one walk before bytes are passed over.
 const FARTHEST: usize = 4096;
 
 impl<'t> Table<'t> {
-    /// Whether bytes can be passed over: by a scan, or by four walks if the bytes are many enough, and no pattern
-    /// is too long.
+    /// Whether bytes can be passed over: by a scan, or by four walks over enough bytes if no pattern is too long.
     pub fn can_pass(&self, by_scan: bool, bytes: usize) -> bool
         ensures { result ≡ true → by_scan ≡ false → self.now.longest ≤ LONGEST }
     {
         by_scan || (self.longest <= LONGEST && bytes >= 3 * BLOCKS_NEAR * FIRST_BLOCK)
     }
 
-    /// How far one walk goes at least before bytes are passed over, by a scan or not.
+    /// The least distance of one walk before bytes are passed over, with or without a scan.
     pub fn nearest(&self, by_scan: bool) -> usize
         ensures { IsNear self.now by_scan result }
     {
@@ -60,8 +64,8 @@ impl<'t> Table<'t> {
         BLOCKS_NEAR * FIRST_BLOCK.max(2 * longest)
     }
 
-    /// A place in a span before which nothing begins. It is called, and not put in its place, so that what calls it
-    /// keeps what it needs in registers.
+    /// Returns an offset in a span before which no pattern begins. It is not inlined, so its caller keeps values in
+    /// registers.
     #[inline(never)]
     pub fn pass_over(
         &self,
@@ -93,7 +97,7 @@ impl<'t> Table<'t> {
         }
     }
 
-    /// The same by four walks at once through blocks that become longer.
+    /// The same by four walks at once, through blocks that grow.
     #[inline(always)]
     fn pass_blocks(
         &self,
@@ -119,6 +123,7 @@ impl<'t> Table<'t> {
     {
         let (limit, classes) = (self.limit()?, self.class_bytes());
         let (mut at, mut block) = (span.start, near / BLOCKS_NEAR);
+        // (the last walk goes on after the four blocks, by less than a block)
         while 5 * block <= span.end - at
             && self.none_begins(&classes, haystack, at, block, limit, tally)
         {
@@ -128,7 +133,7 @@ impl<'t> Table<'t> {
         Ok(at)
     }
 
-    /// Whether nothing begins in the four blocks from a place on.
+    /// Whether no pattern begins in the four blocks from an offset on.
     #[inline(always)]
     fn none_begins(
         &self,
@@ -155,8 +160,8 @@ impl<'t> Table<'t> {
     }
 }
 
-/// How far one walk goes the next time before bytes are passed over, where it went so far, and then so many bytes were
-/// passed over.
+/// The distance of the next walk before bytes are passed over, from the distance of the last one and the number of
+/// bytes passed over since.
 pub fn farther(nearest: usize, near: usize, passed: usize) -> usize
     ensures least { nearest ≤ result }
     ensures short { near ≤ 6 * LONGEST → nearest ≤ 6 * LONGEST → result ≤ 6 * LONGEST }
@@ -169,7 +174,7 @@ pub fn farther(nearest: usize, near: usize, passed: usize) -> usize
     nearest.max(farther)
 }
 
-/// How many bytes a pass by a scan may look up more than three times those that it passes over.
+/// The most bytes that a pass by a scan looks up in addition to three times those that it passes over.
 pub fn owed_by(scan: &Option<CandidateScan>) -> usize
     ensures { result ≡ owed_by scan.now }
 {
@@ -179,7 +184,7 @@ pub fn owed_by(scan: &Option<CandidateScan>) -> usize
     }
 }
 
-/// How many bytes count as passed over, where a scan passed over so many: fewer where it reads far ahead.
+/// How many of the bytes that a scan passed over are credited: fewer if it reads far ahead.
 pub fn credited(scan: &Option<CandidateScan>, passed: usize) -> usize
     ensures { result ≡ passed - (ahead_by scan.now - OVERLAP) }
 {

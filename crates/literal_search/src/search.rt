@@ -7,7 +7,8 @@ ghost use Rattle.literal_base.specs.Greedy.{IsGreedy, IsGreedyIn};
 ghost use Rattle.literal_base.specs.Leftmost.{IsLeftmost};
 ghost use Rattle.literal_base.specs.Occurs.{IsValidSpan, NothingOccurs, Occurs, between, one_occurs, pattern_at};
 ghost use Rattle.literal_base.specs.Occurs.{rest_from, whole_of};
-ghost use Rattle.literal_search.specs.At.{IsMatchAt, IsMatchIn, ScansAt};
+ghost use Rattle.literal_base.specs.declared.packed.MatchKind.TheVariants.{LeftmostLongest};
+ghost use Rattle.literal_search.specs.At.{IsMatchAt, IsMatchIn, IsNextInList, ScansAt};
 ghost use Rattle.literal_search.specs.SearchValue.{BuildsSearch, CanBeKept, MayRefuseList, NeedFewReversed};
 ghost use Rattle.literal_search.specs.SearchValue.{NeedTooManyReversed, RefusesSearch, ScansNext, ScansThrice};
 ghost use Rattle.literal_search.specs.SearchValue.{ScansWithin};
@@ -16,11 +17,11 @@ ghost use Rattle.literal_search.specs.MatchesValue.{GivesMatch, GivesStart, Give
 ghost use Rattle.literal_search.specs.Memory.{TakesBytes};
 ghost use Rattle.literal_search.specs.Prepared.{AreShort, RefusesToPrepare, TakesPlaces, WritesPrepared, longest_in};
 ghost use Rattle.literal_search.specs.Inside.Backward.{AreBackFor, AreMarked, IsPlaced, IsSafe, back_tables_by};
-ghost use Rattle.literal_search.specs.Inside.Backward.{place_by};
+ghost use Rattle.literal_search.specs.Inside.Backward.{offset_by};
 ghost use Rattle.literal_search.specs.Inside.Search.{AreKept, AreParts, patterns_of, search_value, tables_of};
 ghost use Rattle.literal_search.specs.declared.backward.TheConstants.{LEAST};
 
-use crate::backward::{Backward, GoesOn, LEAST, Marks, no_marks, place_after};
+use crate::backward::{Backward, Continuation, LEAST, Marks, no_marks, offset_after};
 use crate::classes::classes_for;
 use crate::grow::GrowError;
 use crate::numbers::{Numbers, prints_for};
@@ -28,6 +29,7 @@ use crate::patterns::Patterns;
 use crate::prepared::{ArrayTooShort, PREPARED_VERSION};
 use crate::prepared_search::backward_in;
 use crate::shadowed::backward_rows;
+use crate::word_search::earlier;
 use crate::{BuildError, copies, push_copy, shortest_len, total_bytes};
 use literal_base::count::Tally;
 use literal_base::packed::MatchKind;
@@ -37,17 +39,17 @@ use std::alloc::{AllocError, Global};
 use std::fmt;
 use std::marker::Model;
 
-/// Searches for leftmost matches of any number of patterns at once. Contracts see the kind of match, the patterns, and
+/// Searches for leftmost matches of any number of patterns at once. Contracts see the match kind, the patterns, and
 /// whether ASCII case is ignored.
 ///
-/// A search, and a list of all matches, looks up at most three times the bytes of the haystack, whatever the patterns
-/// are, and however many matches there are. So does an iteration, if no pattern has more than 1,024 bytes; otherwise
-/// each match is searched for anew.
+/// A search, or a list of all matches, looks up at most three times the bytes of the haystack, for any patterns and any
+/// number of matches. So does an iteration, unless a pattern has more than 1,024 bytes; then each match is searched for
+/// anew.
 ///
-/// A search walks through a block of the haystack from its end, by an automaton of the reversed patterns: its state at
-/// an offset says which patterns begin there. The automaton has a state for each different suffix of a pattern, and a
-/// row of numbers for each state: one for each different byte of the patterns, and two more (one, if all 256 occur). By
-/// [`MatchKind::LeftmostFirst`] a pattern that has an earlier one as a prefix never matches: it takes no states.
+/// A search walks backward through blocks of the haystack, with an automaton of the reversed patterns. Its state at an
+/// offset says which patterns begin there. The automaton has a state for each distinct suffix of a pattern, and a row
+/// of numbers for each state: one for each distinct byte of the patterns, and two more (one, if all 256 bytes occur).
+/// With [`MatchKind::LeftmostFirst`], a pattern never matches if an earlier one is its prefix; it adds no states.
 ///
 /// ```rust
 /// let words = [b"password".as_slice(), b"secret"];
@@ -60,7 +62,7 @@ pub struct Search {
     parts: Parts,
 }
 
-/// What a search reads.
+/// The data of a search.
 #[derive(Drop)]
 struct Parts {
     kind: MatchKind,
@@ -81,9 +83,9 @@ impl Model for Search {
 }
 
 impl Search {
-    /// The search for the patterns that the iterator gives, by this kind of match, and with ASCII case ignored or not.
-    /// The iterator has to end. There may be no pattern: then nothing is found, and no memory is asked for. Else it is
-    /// asked for only for a pattern that is kept, and behind the last of them.
+    /// Builds a search for the patterns that an iterator gives, with this match kind, and with ASCII case ignored or
+    /// kept. The iterator has to end. The list may be empty: such a search finds nothing and allocates nothing.
+    /// Otherwise it allocates only for a pattern that is kept, and after the last one. [`BuildError`] lists the errors.
     pub fn new<'a, I: IntoIterator<Item = &'a [u8]>>(
         alloc: Global,
         kind: MatchKind,
@@ -108,7 +110,7 @@ impl Search {
         Ok(Search { parts })
     }
 
-    /// The leftmost match in the haystack: [`Search::find_in`] of all of it.
+    /// Returns the leftmost match in the whole haystack, as [`Search::find_in`] does for a span.
     pub fn find(&self, haystack: &[u8]) -> Option<Match>
         ensures leftmost { IsLeftmost self.now.query self.now.ignore_case haystack.now (whole_of haystack.now) result }
         ensures not_empty { IfSome result (λ found. found.start < found.end) }
@@ -117,10 +119,10 @@ impl Search {
         self.find_in(haystack, Span { start: 0, end })
     }
 
-    /// The leftmost match in a span of the haystack: of the occurrences of patterns that lie whole in the span the one
-    /// that begins first, and of those that begin there the one that the match kind prefers. Offsets, in the answer
-    /// too, are in bytes of the whole haystack. The span has to be valid: its `start` at most its `end`, and that at
-    /// most the haystack's length. No memory is asked for.
+    /// Returns the leftmost match in a span of the haystack. Only occurrences that lie whole in the span count. The one
+    /// that begins first wins; if several begin there, the match kind decides. All offsets are in bytes of the whole
+    /// haystack. The span has to be valid: `start` is at most `end`, and `end` at most the haystack's length. Allocates
+    /// nothing.
     pub fn find_in(&self, haystack: &[u8], span: Span) -> Option<Match>
         requires { IsValidSpan haystack.now span }
         ensures leftmost { IsLeftmost self.now.query self.now.ignore_case haystack.now span result }
@@ -129,10 +131,10 @@ impl Search {
         self.find_in_counted(haystack, span, &mut Tally::new())
     }
 
-    /// Answers as [`Search::find_in`], and adds each byte that it looks up to a tally, as scanned: at most three times
-    /// the bytes of the span, and at least these, or with a match those up to its end. If there is a match, it also
-    /// looks up no more than eleven times the bytes before it, plus 36 times the bytes of a first part: 16, or half the
-    /// longest pattern's length plus 3, whichever is more.
+    /// Like [`Search::find_in`], and counts each looked-up byte in the tally, as scanned. These are at most three times
+    /// the bytes of the span. They are at least the bytes of the span, or those up to the end of the match. With a
+    /// match, they are also at most eleven times the bytes before it plus 36 times the first part, which has 16 bytes,
+    /// or half the longest pattern's length plus 3 if that is more.
     pub fn find_in_counted(&self, haystack: &[u8], span: Span, tally: &mut Tally) -> Option<Match>
         requires { IsValidSpan haystack.now span }
         ensures leftmost { IsLeftmost self.now.query self.now.ignore_case haystack.now span result }
@@ -145,7 +147,7 @@ impl Search {
         }
     }
 
-    /// Whether a pattern occurs in the haystack.
+    /// Returns whether a pattern occurs in the haystack.
     pub fn is_match(&self, haystack: &[u8]) -> bool
         ensures occurs { IsTrue result ↔ ((i : ℕ) × (at : ℕ)
             × Occurs self.now.query.patterns self.now.ignore_case haystack.now (whole_of haystack.now) i at) }
@@ -154,8 +156,8 @@ impl Search {
         self.find(haystack).is_some()
     }
 
-    /// The match that begins at a place: of the patterns that stand there the one that the match kind prefers, and
-    /// `None` where none does. A lexer goes so from token to token. The place has to be at most the haystack's length.
+    /// Returns the match that begins at an offset: of the patterns that occur there, the one that the match kind
+    /// prefers, or `None`. A lexer can call it for each token. The offset has to be at most the haystack's length.
     pub fn match_at(&self, haystack: &[u8], at: usize) -> Option<Match>
         requires { at ≤ length haystack.now }
         ensures at { IsMatchAt self.now.query self.now.ignore_case haystack.now at result }
@@ -165,9 +167,9 @@ impl Search {
         self.match_in(haystack, Span { start: at, end })
     }
 
-    /// The match that begins where a span of the haystack does: of the patterns that occur there, whole in the span,
-    /// the one that the match kind prefers, and `None` where none does. With `MatchKind::LeftmostLongest` the next
-    /// shorter match is that in the span that ends one byte before this match does. The span has to be valid.
+    /// Returns the match that begins at the start of a span: of the patterns that occur there, whole in the span, the
+    /// one that the match kind prefers, or `None`. With `MatchKind::LeftmostLongest`, the next shorter match is the one
+    /// in the span that ends one byte before this match. The span has to be valid.
     pub fn match_in(&self, haystack: &[u8], span: Span) -> Option<Match>
         requires { IsValidSpan haystack.now span }
         ensures at { IsMatchIn self.now.query self.now.ignore_case haystack.now span result }
@@ -176,8 +178,29 @@ impl Search {
         self.match_in_counted(haystack, span, &mut Tally::new())
     }
 
-    /// Answers as [`Search::match_in`], and adds each byte that it looks up to a tally, as scanned: at most as many as
-    /// the longest pattern has, and as the span has, and at least those of the match.
+    /// Returns the first pattern in the list, from number `from` on, that occurs at the start of a span, whole in it,
+    /// or `None`. An engine that prefers earlier patterns can try them in turn with it. Of equal patterns only the
+    /// first counts. The span has to be valid. The match kind has to be [`MatchKind::LeftmostLongest`]: with the other
+    /// kind, a pattern never matches if an earlier one is its prefix.
+    pub fn next_in_list(&self, haystack: &[u8], span: Span, from: usize) -> Option<Match>
+        requires valid { IsValidSpan haystack.now span }
+        requires longest { self.now.query.kind ≡ LeftmostLongest }
+        ensures next { IsNextInList self.now.query.patterns self.now.ignore_case haystack.now span from result }
+        ensures not_empty { IfSome result (λ found. found.start < found.end) }
+    {
+        let mut next = None;
+        let mut rest = span;
+        while let Some(found) = self.match_in(haystack, rest) {
+            if found.pattern().as_usize() >= from {
+                next = Some(earlier(next, found));
+            }
+            rest.end = found.end() - 1;
+        }
+        next
+    }
+
+    /// Like [`Search::match_in`], and counts each looked-up byte in the tally, as scanned: at most the length of the
+    /// longest pattern and of the span, and at least the length of the match.
     pub fn match_in_counted(&self, haystack: &[u8], span: Span, tally: &mut Tally) -> Option<Match>
         requires { IsValidSpan haystack.now span }
         ensures at { IsMatchIn self.now.query self.now.ignore_case haystack.now span result }
@@ -190,8 +213,8 @@ impl Search {
         }
     }
 
-    /// Answers as [`Search::match_at`], and adds each byte that it looks up to a tally, as scanned: at most as many as
-    /// the longest pattern has, and at least those of the match.
+    /// Like [`Search::match_at`], and counts each looked-up byte in the tally, as scanned: at most the length of the
+    /// longest pattern, and at least the length of the match.
     pub fn match_at_counted(&self, haystack: &[u8], at: usize, tally: &mut Tally) -> Option<Match>
         requires { at ≤ length haystack.now }
         ensures at { IsMatchAt self.now.query self.now.ignore_case haystack.now at result }
@@ -202,9 +225,9 @@ impl Search {
         self.match_in_counted(haystack, Span { start: at, end }, tally)
     }
 
-    /// All matches in the haystack, from the left, none of which overlaps another: first the leftmost match of the
-    /// haystack, and after each match the leftmost one of what is left behind it. The iterator borrows the haystack,
-    /// and ends with the first `None`.
+    /// Returns an iterator over all matches in the haystack that do not overlap: first the leftmost match, then each
+    /// time the leftmost match after the end of the previous one. The iterator borrows the haystack. It ends with its
+    /// first `None`.
     pub fn find_iter<'s, 'h>(&'s self, haystack: &'h [u8]) -> Matches<'s, 'h>
         ensures { result ≡ record {
           search = self.now;
@@ -218,10 +241,10 @@ impl Search {
         self.find_iter_in(haystack, Span { start: 0, end })
     }
 
-    /// The same in a span of the haystack. Each match lies whole in the span. Offsets, in the matches too, are in
-    /// bytes of the whole haystack. The span has to be valid: its `start` at most its `end`, and that at most the
-    /// haystack's length. No memory is asked for: what is known of one block stands in the iterator, which takes 4 KiB.
-    /// If a pattern is longer than a block, of 1,024 bytes, each match is searched for alone.
+    /// The same in a span of the haystack. Each match lies whole in the span. All offsets are in bytes of the whole
+    /// haystack. The span has to be valid: `start` is at most `end`, and `end` at most the haystack's length. It
+    /// allocates nothing: the iterator itself holds the marks of one block of 1,024 bytes, in 4 KiB. If a pattern is
+    /// longer than a block, each match is searched for alone.
     pub fn find_iter_in<'s, 'h>(&'s self, haystack: &'h [u8], span: Span) -> Matches<'s, 'h>
         requires { IsValidSpan haystack.now span }
         ensures { result ≡ record {
@@ -243,8 +266,8 @@ impl Search {
         }
     }
 
-    /// The match at each offset of the haystack at which a pattern begins, from the left: of the patterns that occur
-    /// there the one that the match kind prefers. These matches may overlap.
+    /// Returns an iterator over the match at each offset where a pattern begins, from left to right: of the patterns
+    /// that occur there, the one that the match kind prefers. These matches may overlap.
     pub fn starts<'s, 'h>(&'s self, haystack: &'h [u8]) -> Starts<'s, 'h>
         ensures { result ≡ record {
           search = self.now;
@@ -258,8 +281,7 @@ impl Search {
         self.starts_in(haystack, Span { start: 0, end })
     }
 
-    /// The same in a span of the haystack. Each match lies whole in the span, which has to be valid. No memory is asked
-    /// for.
+    /// The same in a span of the haystack. Each match lies whole in the span, which has to be valid. Allocates nothing.
     pub fn starts_in<'s, 'h>(&'s self, haystack: &'h [u8], span: Span) -> Starts<'s, 'h>
         requires { IsValidSpan haystack.now span }
         ensures { result ≡ record {
@@ -275,8 +297,8 @@ impl Search {
         }
     }
 
-    /// The list of what [`Search::find_iter`] gives. Memory is asked for only where there is a match, or a pattern has
-    /// more than 1,024 bytes.
+    /// Returns the list of all matches that [`Search::find_iter`] gives. Allocates only if there is a match, or if a
+    /// pattern has more than 1,024 bytes.
     #[tactic(auto, using(crate::proofs::lemmas::GreedyIn::greedy_whole))]
     pub fn find_all(&self, haystack: &[u8]) -> Result<Vec<Match>, AllocError>
         ensures greedy { IfOk result
@@ -287,8 +309,8 @@ impl Search {
         self.find_all_in(haystack, Span { start: 0, end })
     }
 
-    /// The list of what [`Search::find_iter_in`] gives, for a span that is valid. Memory is asked for only where there
-    /// is a match, or a pattern has more than 1,024 bytes.
+    /// Returns the list of all matches that [`Search::find_iter_in`] gives. The span has to be valid. Allocates only if
+    /// there is a match, or if a pattern has more than 1,024 bytes.
     pub fn find_all_in(&self, haystack: &[u8], span: Span) -> Result<Vec<Match>, AllocError>
         requires { IsValidSpan haystack.now span }
         ensures greedy { IfOk result
@@ -298,8 +320,8 @@ impl Search {
         self.find_all_in_counted(haystack, span, &mut Tally::new())
     }
 
-    /// Answers as [`Search::find_all_in`], and adds each byte that it looks up to a tally, as scanned: at least those
-    /// of the span, and at most three times these.
+    /// Like [`Search::find_all_in`], and counts each looked-up byte in the tally, as scanned: at most three times the
+    /// bytes of the span, and, unless memory is refused, at least these bytes.
     pub fn find_all_in_counted(
         &self,
         haystack: &[u8],
@@ -321,8 +343,8 @@ impl Search {
         self.parts.all_in(haystack, span, &mut numbers, tally)
     }
 
-    /// Writes the numbers of the search into the first places of an array, and answers how many these are.
-    /// [`Prepared`](crate::Prepared) searches by them. After an error the array is unchanged.
+    /// Writes the search into the first entries of an array, for [`Prepared`](crate::Prepared), and returns their
+    /// number. If the array is too short, it is unchanged.
     pub fn prepare(&self, array: &mut [u32]) -> Result<usize, ArrayTooShort>
         ensures ok { IfOk result (WritesPrepared self.now array.old array.new) }
         ensures error { IfErr result (RefusesToPrepare self.now array.old) }
@@ -331,7 +353,7 @@ impl Search {
         self.parts.numbers.put(array)
     }
 
-    /// What a search from the right reads of it.
+    /// The parts that a backward walk reads.
     pub(crate) fn backward(&self) -> Backward<'_>
         ensures safe { IsSafe result }
         ensures is_for { AreBackFor self.now result }
@@ -339,12 +361,12 @@ impl Search {
         self.parts.backward()
     }
 
-    /// Where its memory comes from.
+    /// The allocator of the search.
     pub(crate) fn allocator(&self) -> Global {
         *self.parts.patterns.allocator()
     }
 
-    /// How many places [`Search::prepare`] writes: an array of as many, or more, is long enough for it.
+    /// Returns how many entries [`Search::prepare`] writes. An array of this length or longer is long enough.
     #[tactic(auto, using(crate::proofs::lemmas::BackTables::takes_kept))]
     pub fn prepared_len(&self) -> usize
         ensures { TakesPlaces self.now result }
@@ -352,8 +374,8 @@ impl Search {
         self.parts.numbers.as_slice().len()
     }
 
-    /// How many bytes its numbers and its patterns take: 4 for each place that [`Search::prepare`] writes, and one for
-    /// each byte of a pattern. It leaves out what the allocator rounds up, and where each pattern lies.
+    /// Returns how many bytes the search takes: 4 for each entry that [`Search::prepare`] writes, and one for each byte
+    /// of a pattern. Rounding by the allocator, and the list of where each pattern is, are not counted.
     pub fn memory_usage(&self) -> u128
         ensures { TakesBytes self.now result }
     {
@@ -361,21 +383,21 @@ impl Search {
         numbers.len() as u128 * 4 + total_bytes(&self.parts.patterns)
     }
 
-    /// Which of the patterns that match at one place is taken.
+    /// Returns the match kind, which decides between patterns that match at the same offset.
     pub fn match_kind(&self) -> MatchKind
         ensures { result ≡ self.now.query.kind }
     {
         self.parts.kind
     }
 
-    /// Whether ASCII case is ignored.
+    /// Returns whether ASCII case is ignored.
     pub fn ignores_case(&self) -> bool
         ensures { result ≡ self.now.ignore_case }
     {
         self.parts.ignore_case
     }
 
-    /// How many patterns there are, none of them empty.
+    /// Returns the number of patterns. None of them is empty.
     pub fn patterns_len(&self) -> usize
         ensures len { result ≡ length self.now.query.patterns }
         ensures patterns { CanBeKept self.now.query.patterns }
@@ -383,14 +405,14 @@ impl Search {
         self.parts.patterns.len()
     }
 
-    /// How many bytes the longest pattern has, and 0 where there is none.
+    /// Returns the length in bytes of the longest pattern, or 0 if there is none.
     pub fn max_pattern_len(&self) -> usize
         ensures { result ≡ longest_of self.now.query.patterns }
     {
         self.parts.longest()
     }
 
-    /// How many bytes the shortest pattern has, and 0 where there is none. It goes over all patterns.
+    /// Returns the length in bytes of the shortest pattern, or 0 if there is none. It visits all patterns.
     pub fn min_pattern_len(&self) -> usize
         ensures { result ≡ shortest_of self.now.query.patterns }
     {
@@ -400,14 +422,14 @@ impl Search {
         shortest_len(&self.parts.patterns)
     }
 
-    /// The patterns, as they were given, in the order of their identifiers.
+    /// Returns an iterator over the patterns, as they were given, in the order of their numbers.
     pub fn patterns(&self) -> Patterns<'_>
         ensures { result ≡ self.now.query.patterns }
     {
         Patterns::of(&self.parts.patterns)
     }
 
-    /// The bytes of the pattern of a number, as they were given, and `None` where there is none of that number.
+    /// Returns the bytes of the pattern with this number, as they were given, or `None` if there is no such pattern.
     pub fn pattern(&self, id: PatternID) -> Option<&[u8]>
         ensures { MatchOption result (length self.now.query.patterns ≤ id)
             (λ bytes. (id < length self.now.query.patterns) × (bytes.now ≡ pattern_at self.now.query.patterns id)) }
@@ -416,8 +438,8 @@ impl Search {
         Some(pattern.as_slice())
     }
 
-    /// A copy: the same kind, patterns and case. It takes as much memory as this one, and none where there is no
-    /// pattern, but not the time to build another.
+    /// Returns a copy with the same match kind, patterns and case. It takes as much memory as the original, and none if
+    /// there is no pattern, but no time to build the automaton.
     pub fn try_clone(&self) -> Result<Search, AllocError>
         ensures copy { IfOk result (λ copy. copy ≡ self.now) }
         ensures no_memory { OnErr result (0 < length self.now.query.patterns) }
@@ -441,7 +463,7 @@ impl Search {
     }
 }
 
-/// Says which match is taken, whether ASCII case is ignored, and how many patterns there are.
+/// Shows the match kind, whether ASCII case is ignored, and the number of patterns.
 impl fmt::Debug for Search {
     fn fmt<W: fmt::Write>(&self, f: &mut fmt::Formatter<W>) -> fmt::Result {
         let (kind, ignore_case) = (self.match_kind(), self.ignores_case());
@@ -454,7 +476,7 @@ impl fmt::Debug for Search {
 }
 
 impl Parts {
-    /// The list of all matches in a span, by numbers that have room for the marks of a block.
+    /// Lists all matches in a span. `numbers` has room for the marks of a block.
     fn all_in(
         &self,
         haystack: &[u8],
@@ -488,7 +510,7 @@ impl Parts {
         }
     }
 
-    /// How long the longest pattern is.
+    /// The length of the longest pattern.
     fn longest(&self) -> usize
         requires { AreParts self.now }
         ensures { result ≡ longest_in self.now.numbers }
@@ -496,7 +518,7 @@ impl Parts {
         self.backward().table.longest
     }
 
-    /// What a search from the right reads of them.
+    /// The parts that a backward walk reads.
     fn backward(&self) -> Backward<'_>
         requires { AreParts self.now }
         ensures safe { IsSafe result }
@@ -511,7 +533,7 @@ impl Parts {
     }
 }
 
-/// The numbers of the search for patterns. Memory is asked for only where there is one.
+/// Builds the numbers of a search for some patterns. Allocates only if there is a pattern.
 fn numbers_of(
     alloc: Global,
     kind: MatchKind,
@@ -537,7 +559,7 @@ fn numbers_of(
     Ok(numbers)
 }
 
-/// Copies of some patterns.
+/// Copies a list of patterns.
 fn copy_of_lists(alloc: Global, lists: &[Vec<u8>]) -> Result<Vec<Vec<u8>>, AllocError>
     ensures copy { IfOk result (λ copy. map (λ pattern. pattern.items) copy.items
         ≡ map (λ pattern. pattern.items) lists.now) }
@@ -550,8 +572,9 @@ fn copy_of_lists(alloc: Global, lists: &[Vec<u8>]) -> Result<Vec<Vec<u8>>, Alloc
     Ok(copy)
 }
 
-/// What [`Search::find_iter_in`] goes over. Contracts see the search, the haystack, the span, the place from which the
-/// list goes on, and up to which place it has looked. After its first `None` it keeps answering `None`.
+/// The iterator of [`Search::find_iter_in`]. Contracts see the search, the haystack, the span, the offset from which it
+/// continues (`at`), and the offset up to which it has looked (`known`). After its first `None` it always answers
+/// `None`.
 #[derive(Drop)]
 pub struct Matches<'s, 'h> {
     parts: &'s Parts,
@@ -588,21 +611,21 @@ impl<'s, 'h> Model for Matches<'s, 'h> {
 }
 
 impl<'s, 'h> Matches<'s, 'h> {
-    /// Answers as `next`, and adds each byte that it looks up to a tally, as scanned. A call looks up at most three
-    /// times the bytes by which `known` grows. A whole iteration looks up at least the bytes of the span, and at most
-    /// three times as many. If a pattern has more than 1,024 bytes, a call looks up what [`Search::find_in_counted`]
-    /// looks up in the rest.
+    /// Like `next`, and counts each looked-up byte in the tally, as scanned. A call looks up at most three times the
+    /// bytes by which `known` grows. An iteration looks up at least the bytes of the span, and at most three times as
+    /// many. If a pattern has more than 1,024 bytes, a call instead looks up as much as [`Search::find_in_counted`] in
+    /// the rest.
     pub fn next_counted(&mut self, tally: &mut Tally) -> Option<Match>
         ensures gives { GivesMatch self.old result self.new }
         ensures scans { ScansNext (longest_of self.old.search.query.patterns) self.old.span self.old.at self.old.known
             self.new.known result tally.old tally.new }
     {
-        self.next_then(GoesOn::AtEnd, tally)
+        self.next_then(Continuation::AtEnd, tally)
     }
 
-    /// The next match, after which the iteration goes on at its end, or one byte after its start.
-    fn next_then(&mut self, on: GoesOn, tally: &mut Tally) -> Option<Match>
-        ensures gives { GivesThen (place_by on) self.old result self.new }
+    /// The next match. The iteration continues at its end, or one byte after its start.
+    fn next_then(&mut self, on: Continuation, tally: &mut Tally) -> Option<Match>
+        ensures gives { GivesThen (offset_by on) self.old result self.new }
         ensures scans { ScansNext (longest_of self.old.search.query.patterns) self.old.span self.old.at self.old.known
             self.new.known result tally.old tally.new }
     {
@@ -619,7 +642,7 @@ impl<'s, 'h> Matches<'s, 'h> {
         let Ok(answer) = next else {
             unreachable!();
         };
-        self.at = place_after(on, span, &answer);
+        self.at = offset_after(on, span, &answer);
         answer
     }
 }
@@ -636,8 +659,8 @@ impl<'s, 'h> Iterator for Matches<'s, 'h> {
     }
 }
 
-/// What [`Search::starts_in`] goes over. Contracts see the same as of [`Matches`], but after a match the list goes on
-/// one byte after its start. After its first `None` it keeps answering `None`.
+/// The iterator of [`Search::starts_in`]. Contracts see the same as of [`Matches`], but after a match it continues one
+/// byte after the start. After its first `None` it always answers `None`.
 #[derive(Drop)]
 pub struct Starts<'s, 'h> {
     matches: Matches<'s, 'h>,
@@ -652,15 +675,15 @@ impl<'s, 'h> Model for Starts<'s, 'h> {
 }
 
 impl<'s, 'h> Starts<'s, 'h> {
-    /// Answers as `next`, and adds each byte that it looks up to a tally, as scanned. If no pattern has more than 1,024
-    /// bytes, a call looks up at most three times the bytes of the span that no call before it has looked up. Else each
-    /// call searches anew, as [`Search::find_in_counted`] does.
+    /// Like `next`, and counts each looked-up byte in the tally, as scanned. If no pattern has more than 1,024 bytes, a
+    /// call looks up at most three times the bytes of the span that no earlier call has looked up. Otherwise each call
+    /// searches anew, as [`Search::find_in_counted`] does.
     pub fn next_counted(&mut self, tally: &mut Tally) -> Option<Match>
         ensures gives { GivesStart self.old result self.new }
         ensures scans { ScansNext (longest_of self.old.search.query.patterns) self.old.span self.old.at self.old.known
             self.new.known result tally.old tally.new }
     {
-        self.matches.next_then(GoesOn::AfterStart, tally)
+        self.matches.next_then(Continuation::AfterStart, tally)
     }
 }
 

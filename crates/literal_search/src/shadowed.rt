@@ -1,5 +1,4 @@
-//! Patterns that never match, because an earlier one is a prefix of them and is preferred. A search goes by that one in
-//! their place.
+//! Patterns that never match, because an earlier one is their prefix and is preferred. A search uses that one instead.
 ghost use Rattle.std.specs.Prelude.{◌≡◌, ◌<◌, ◌≤◌, ℕ, IfErr, IfOk, Some, false, length, map, reverse, slice_index};
 ghost use Rattle.literal_base.specs.Occurs.{pattern_at};
 ghost use Rattle.literal_search.specs.SearchValue.{CanBeKept, reversed, unshadowed};
@@ -15,7 +14,7 @@ use crate::walk::NOTHING;
 use literal_base::packed::MatchKind;
 use std::alloc::{AllocError, Global};
 
-/// The rows of the automaton by which a search goes: that of the reversed patterns, but without those that never match.
+/// The rows of the automaton by which a search walks: that of the reversed patterns, without those that never match.
 pub(crate) fn backward_rows(
     alloc: Global,
     kind: MatchKind,
@@ -46,8 +45,8 @@ pub(crate) fn backward_rows(
     }
 }
 
-/// The rows for the reversed patterns, if no pattern has an earlier one as a prefix. Otherwise those of another
-/// automaton: in it, each pattern that has such prefixes is replaced by the first of them in the list.
+/// The rows for the reversed patterns, if no pattern has an earlier one as a prefix. Otherwise the rows of another
+/// automaton: in it, each pattern with such prefixes is replaced by the first of them in the list.
 fn first_rows(
     alloc: Global,
     classes: &Classes,
@@ -80,7 +79,7 @@ fn first_rows(
 }
 
 impl<'p> Recognised<'p> {
-    /// For each pattern the smallest number of those that are a suffix of it.
+    /// For each pattern the smallest number of a pattern that is a suffix of it.
     pub(crate) fn first_suffixes(&self, alloc: Global) -> Result<Vec<u32>, AllocError>
         requires { Recognise self.now }
         ensures { IfOk result (λ firsts. AreFirst (symbols_of self.now) firsts.items
@@ -95,7 +94,7 @@ impl<'p> Recognised<'p> {
         Ok(firsts)
     }
 
-    /// The smallest number of a pattern that is a suffix of one.
+    /// The smallest number of a pattern that is a suffix of this one.
     fn first_suffix(&self, links: &[u32], longest: &[u32], pattern: usize) -> u32
         requires recognise { Recognise self.now }
         requires longest { AreLongest (symbols_of self.now) longest.now (length self.now.patterns.now) }
@@ -113,7 +112,7 @@ impl<'p> Recognised<'p> {
     }
 }
 
-/// Whether one of the patterns is longer than the one that takes its place.
+/// Whether a pattern is longer than the one that replaces it.
 fn has_shadowed(patterns: &[Vec<u8>], firsts: &[u32]) -> bool
     requires long { length firsts.now ≡ length patterns.now }
     requires below { (i : ℕ) → i < length patterns.now → slice_index firsts.now i < length patterns.now }
@@ -129,7 +128,7 @@ fn has_shadowed(patterns: &[Vec<u8>], firsts: &[u32]) -> bool
     false
 }
 
-/// Reversed copies of the patterns of these numbers.
+/// Reversed copies of the patterns with these numbers.
 fn copies_of(
     alloc: Global,
     patterns: &[Vec<u8>],
@@ -146,7 +145,7 @@ fn copies_of(
     Ok(all)
 }
 
-/// Copies of the patterns, each reversed.
+/// Reversed copies of all patterns.
 fn backward_copies(alloc: Global, patterns: &[Vec<u8>]) -> Result<Vec<Vec<u8>>, AllocError>
     ensures { IfOk result (λ all. map (λ pattern. pattern.items) all.items
         ≡ reversed (map (λ pattern. pattern.items) patterns.now)) }

@@ -1,4 +1,4 @@
-//! Searches in texts of which more may follow, and in texts that are read piece by piece.
+//! Searches in texts that may continue, and in texts that are read in pieces.
 ghost use Rattle.std.specs.Prelude.{◌≡◌, ◌+◌, ◌<◌, ◌≤◌, ◌++◌, [], ℕ, Bool, List, drop, length, false, true};
 ghost use Rattle.std.specs.Prelude.{IfOk, IfSome, MatchOption, MatchResult};
 ghost use Rattle.std.specs.Io.KnownBytes.{Consumes};
@@ -21,21 +21,21 @@ use std::alloc::{AllocError, Global};
 use std::io::{self, Read};
 use std::marker::Model;
 
-/// What the beginning of a text tells of the leftmost match in all of it.
+/// What is known of the leftmost match in a text from its beginning alone.
 #[derive(Clone, Copy, Debug, PartialEq, Eq)]
 pub enum SoFar {
     /// This is the match, whatever follows.
     Found(Match),
-    /// Whatever follows, no match begins before this place.
+    /// No match begins before this offset, whatever follows.
     NoneBefore(usize),
 }
 
 impl Search {
-    /// What is known of the leftmost match in a text, from a place on, where the haystack is its beginning and anything
-    /// may follow: the match, as soon as the longest pattern would fit in between its start and the haystack's end, and
-    /// else the first place at which a match may begin. A search goes on from there, with what has come meanwhile, and
-    /// no byte before it is needed any more. That place is behind all of the haystack but one byte less than the
-    /// longest pattern has. The place from which it searches has to be at most the haystack's length.
+    /// Returns what is known of the leftmost match from an offset on, where the haystack is the beginning of a text and
+    /// anything may follow. A match is known once the longest pattern would fit between its start and the haystack's
+    /// end. Otherwise it returns the first offset at which a match may still begin. From there to the end are one byte
+    /// less than the longest pattern has, or all bytes from `at` on if these are fewer. The search continues there once
+    /// more of the text is known, and no longer needs the bytes before. `at` has to be at most the haystack's length.
     pub fn find_so_far(&self, haystack: &[u8], at: usize) -> SoFar
         requires { at ≤ length haystack.now }
         ensures whatever_follows { (more : List ℕ)
@@ -47,9 +47,9 @@ impl Search {
         so_far(haystack, at, self.max_pattern_len(), found)
     }
 
-    /// Answers as [`Search::find_so_far`], and adds each byte that it looks up to a tally, as scanned: at least as many
-    /// as there are up to the match's end, or up to that place; at most three times as many as there are from where it
-    /// begins, and with a match also no more than [`Search::find_in_counted`] does.
+    /// Like [`Search::find_so_far`], and counts each looked-up byte in the tally, as scanned. These are at least the
+    /// bytes from `at` up to the match's end, or up to the returned offset. They are at most three times the bytes from
+    /// `at` on, and with a match also at most what [`Search::find_in_counted`] may look up.
     pub fn find_so_far_counted(&self, haystack: &[u8], at: usize, tally: &mut Tally) -> SoFar
         requires { at ≤ length haystack.now }
         ensures whatever_follows { (more : List ℕ)
@@ -63,11 +63,11 @@ impl Search {
         so_far(haystack, at, self.max_pattern_len(), found)
     }
 
-    /// All matches in what a reader gives, from the left, none of which overlaps another, as those of
-    /// [`Search::find_iter`] in all of it: with offsets in the whole text, whatever pieces it comes in. Of the text it
-    /// keeps twice as many bytes as the longest pattern has, and a block of 64 KiB, or as long as the longest pattern.
-    /// A match is given once twice as many bytes as the longest pattern has are read from where the search goes on, or
-    /// the end of the text; where reading fails, each that is known from what was read comes before the error.
+    /// Returns an iterator over all matches in the text that a reader gives. They are those of [`Search::find_iter`] in
+    /// the whole text, with offsets in the whole text, whatever pieces it comes in. The buffer has twice the longest
+    /// pattern's length, plus 64 KiB or that length, whichever is more. A match is given once twice the longest
+    /// pattern's length is read from where the search continues, or the text has ended. If reading fails, all matches
+    /// that are known from the bytes read come before the error.
     ///
     /// ```rust
     /// let words = [b"password".as_slice(), b"secret"];
@@ -95,7 +95,7 @@ impl Search {
     }
 }
 
-/// What the leftmost match from a place on tells, where more may follow, and the longest pattern is so long.
+/// What is known, if more may follow, from the leftmost match from an offset on and the longest pattern's length.
 pub fn so_far(haystack: &[u8], at: usize, longest: usize, leftmost: Option<Match>) -> SoFar
     requires within { at ≤ length haystack.now }
     requires inside { IfSome leftmost (LiesIn (between at (length haystack.now))) }
@@ -115,10 +115,10 @@ pub fn so_far(haystack: &[u8], at: usize, longest: usize, leftmost: Option<Match
     SoFar::NoneBefore(at.max(end.saturating_sub(longest.saturating_sub(1))))
 }
 
-/// What [`Search::find_stream`] goes over. Contracts see the search, the bytes ahead that were read, those that are
-/// still to be read, if they are known, how many came before, of what kind the error is with which reading failed, and
-/// whether it is over. After its first `None` or error it keeps answering `None`, and stays as it is: behind all bytes
-/// that were read.
+/// The iterator of [`Search::find_stream`]. Contracts see the search, the bytes ahead that were read, the bytes still
+/// to be read if they are known, the offset at which the bytes ahead begin, the kind of the error if reading failed,
+/// and whether the iterator has ended. After its first `None` or error it is past all bytes read, always answers
+/// `None`, and stays unchanged.
 #[derive(Drop)]
 pub struct StreamMatches<'s, R: Read + Drop> {
     search: &'s Search,
@@ -151,8 +151,8 @@ impl<'s, R: Read + Drop> Iterator for StreamMatches<'s, R> {
 
     ghost remaining = { most_streamed };
 
-    /// An error comes only once every match that is known from what was read was given. It is the one with which the
-    /// reader failed, or says that a `usize` counts no more of the text ([`io::ErrorKind::FileTooLarge`]).
+    /// An error comes only after every match that is known from the bytes read. It is the error of the reader, or
+    /// [`io::ErrorKind::FileTooLarge`] if a `usize` cannot count more of the text.
     fn next(&mut self) -> Option<io::Result<Match>> {
         if self.is_over {
             return None;
@@ -168,8 +168,8 @@ impl<'s, R: Read + Drop> Iterator for StreamMatches<'s, R> {
     }
 }
 
-/// The leftmost match in what is ahead, by its offsets in the text, behind which it then goes on; the error with which
-/// reading failed, where no match is known from what was read.
+/// The leftmost match ahead, by its offsets in the text; the search then continues at its end. If no match is known
+/// from the bytes read and reading failed, the answer is that error.
 fn next_match<R: Read>(
     search: &Search,
     window: &mut Window,
@@ -190,7 +190,7 @@ fn next_match<R: Read>(
     loop {
         match next_known(search, window, reader, reading) {
             SoFar::Found(found) => return Ok(Some(take(window, found))),
-            SoFar::NoneBefore(place) if reading.is_open() => window.pass(place),
+            SoFar::NoneBefore(offset) if reading.is_open() => window.pass(offset),
             SoFar::NoneBefore(_) => {
                 window.pass(window.held().len());
                 return match reading.take_error() {
@@ -202,7 +202,8 @@ fn next_match<R: Read>(
     }
 }
 
-/// What is known of the leftmost match ahead, once enough of the text is held for a search, or all that could be read.
+/// Reads until enough of the text is held for a search, or all that can be read. Returns what is known of the leftmost
+/// match.
 pub(crate) fn next_known<R: Read>(
     search: &Search,
     window: &mut Window,
@@ -226,7 +227,7 @@ pub(crate) fn next_known<R: Read>(
     first_known(search, window.held(), reading.is_whole())
 }
 
-/// What is known of the leftmost match in the last bytes of a text, or, where that goes on, in bytes of it.
+/// What is known of the leftmost match in the held bytes, which are the rest of the text or a part of it.
 fn first_known(search: &Search, haystack: &[u8], is_whole: bool) -> SoFar
     ensures answers { (more : List ℕ) → (is_whole ≡ true → more ≡ [])
         → AnswersSoFar search.now.query search.now.ignore_case (haystack.now ++ more) 0 result }
@@ -241,7 +242,7 @@ fn first_known(search: &Search, haystack: &[u8], is_whole: bool) -> SoFar
     }
 }
 
-/// The match by its offsets in the text, where it stands in what is held so. The search then goes on behind it.
+/// Drops the held bytes up to the match's end, and returns the match by its offsets in the text.
 fn take(window: &mut Window, found: Match) -> Match
     requires window { IsWindow window.old }
     requires inside { found.end ≤ length (held window.old) }

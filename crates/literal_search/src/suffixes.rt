@@ -1,4 +1,4 @@
-//! The patterns that are a suffix of a pattern, for each pattern of which one is found first.
+//! Lists of the patterns that are suffixes of a pattern, for the first of equal patterns.
 ghost use Rattle.std.specs.Prelude.{◌≡◌, ◌<◌, ◌≤◌, ◌++◌, ◌∷◌, [], IfOk, OnErr, Some, drop, length};
 ghost use Rattle.std.specs.Option.{unwrap_or};
 ghost use Rattle.literal_base.specs.Occurs.{pattern_at};
@@ -19,7 +19,7 @@ pub struct Recognised<'p> {
     pub patterns: &'p [Vec<u8>],
 }
 
-/// Lists of patterns, one behind another, where each begins, and where the last ends.
+/// Concatenated lists of pattern numbers, the index at which each begins, and the end of the last.
 #[derive(Drop)]
 pub struct Lists {
     pub ends: Vec<u32>,
@@ -27,7 +27,8 @@ pub struct Lists {
 }
 
 impl<'p> Recognised<'p> {
-    /// Of the patterns that are a suffix of a pattern from one of its bytes on, the longest, and of equals the first.
+    /// The longest pattern that is a suffix of the rest of a pattern, from one of its bytes on. Of equal ones it is the
+    /// first.
     pub(crate) fn longest_suffix(&self, pattern: usize, from: usize) -> u32
         requires recognise { Recognise self.now }
         requires is_pattern { pattern < length self.now.patterns.now }
@@ -36,15 +37,15 @@ impl<'p> Recognised<'p> {
             (drop from (pattern_at (symbols_of self.now) pattern))) nothing }
     {
         let bytes = self.patterns[pattern].as_slice();
-        let mut place = 0;
+        let mut row = 0;
         for at in from..bytes.len() {
-            let code = self.rows[place + self.classes[bytes[at] as usize] as usize];
-            place = if code < ENDS { code } else { code - ENDS } as usize;
+            let code = self.rows[row + self.classes[bytes[at] as usize] as usize];
+            row = if code < ENDS { code } else { code - ENDS } as usize;
         }
-        self.rows[place + self.width]
+        self.rows[row + self.width]
     }
 
-    /// For each pattern the longest that is a suffix of it: itself, or the first of its equals.
+    /// For each pattern the longest one that is a suffix of it: itself, or the first one equal to it.
     pub(crate) fn longest(&self, alloc: Global) -> Result<Vec<u32>, AllocError>
         requires { Recognise self.now }
         ensures { IfOk result (λ longest. AreLongest (symbols_of self.now) longest.items
@@ -57,7 +58,7 @@ impl<'p> Recognised<'p> {
         Ok(longest)
     }
 
-    /// For each pattern the next that is a suffix of it: one of its equals that comes later, or else a shorter one.
+    /// For each pattern the next one that is a suffix of it: a later one equal to it, or else a shorter one.
     pub(crate) fn links(&self, alloc: Global, longest: &[u32]) -> Result<Vec<u32>, AllocError>
         requires recognise { Recognise self.now }
         requires longest { AreLongest (symbols_of self.now) longest.now (length self.now.patterns.now) }
@@ -80,7 +81,8 @@ impl<'p> Recognised<'p> {
         Ok(links)
     }
 
-    /// The patterns that are a suffix of a pattern, in order, and none where it is not the first of its equals.
+    /// The numbers of all patterns that are suffixes of a pattern, in order. The list is empty if the pattern is not
+    /// the first of its equals.
     fn suffixes_of(
         &self,
         alloc: Global,
@@ -108,12 +110,12 @@ impl<'p> Recognised<'p> {
             list.push(next)?;
             next = links[next as usize];
         }
-        // Equals stand one behind another, and ascend: the sort keeps such runs.
+        // Equal patterns are adjacent and ascend; the sort keeps such runs.
         list.sort()?;
         Ok(list)
     }
 
-    /// The lists of the patterns that are a suffix of a pattern, for each that is the first of its equals.
+    /// The list of suffixes for each pattern that is the first of its equals.
     pub(crate) fn lists(&self, alloc: Global) -> Result<Lists, AllocError>
         requires { Recognise self.now }
         ensures { IfOk result (λ lists. AreLists (symbols_of self.now) lists.ends.items lists.starts.items
@@ -134,7 +136,7 @@ impl<'p> Recognised<'p> {
 }
 
 impl Lists {
-    /// Adds a list behind the others.
+    /// Appends a list to the others.
     fn push(&mut self, list: &[u32]) -> Result<(), AllocError>
         ensures ends { IfOk result (λ _. self.new.ends.items ≡ self.old.ends.items ++ list.now) }
         ensures starts { IfOk result (λ _. self.new.starts.items

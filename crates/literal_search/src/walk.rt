@@ -1,5 +1,5 @@
-//! Walks through the rows of an automaton. The numbers may be lent, and so any: they are damaged where one leads out of
-//! the rows.
+//! Walks through the rows of an automaton. Lent numbers may be wrong: if one points outside the rows, the answer is
+//! `Damaged`.
 ghost use Rattle.std.specs.Prelude.{◌≡◌, ◌⊎◌, ◌+◌, ◌-◌, ◌*◌, ◌<◌, ◌≤◌, ◌^◌};
 ghost use Rattle.std.specs.Prelude.{IfOk, MatchResult, length, min, slice_index, true};
 ghost use Rattle.std.specs.Result.{IsOkAnd};
@@ -13,27 +13,27 @@ use crate::prepared::{Damaged, unpack};
 use literal_base::Span;
 use literal_base::count::Tally;
 
-/// What stands in a row where no pattern ends with the state's word.
+/// The last number of a row if no pattern ends with the state's word.
 pub const NOTHING: u32 = u32::MAX;
 
-/// What a row's number for a state has more where a pattern ends with the state's word.
+/// The bit that is set in a number for a state if a pattern ends with the state's word.
 pub const ENDS: u32 = 1 << 31;
 
-/// Where a walk stands: at which row, and how far it has read.
+/// The position of a walk: the index of its row, and the offset up to which it has read.
 #[derive(Clone, Copy)]
-pub struct Stop {
-    pub place: usize,
+pub struct WalkEnd {
+    pub row: usize,
     pub end: usize,
 }
 
-/// What a walk has reached that looks for the end of a pattern.
+/// The result of a walk that looks for the end of a pattern.
 #[derive(Clone, Copy)]
 pub enum Reached {
-    /// Where a pattern ends, and none before.
-    Ends(Stop),
-    /// Behind this place the walk is back in the first state.
+    /// The first position at which a pattern ends.
+    Ends(WalkEnd),
+    /// The offset at which the walk is back in the start state.
     Back(usize),
-    /// The end of what it was to read.
+    /// The end of the span.
     Nowhere,
 }
 
@@ -42,16 +42,18 @@ pub enum Reached {
 pub struct Table<'t> {
     /// The class of each byte: [`PACKED_LEN`] numbers.
     pub classes: &'t [u32],
-    /// How many classes there are.
+    /// The number of classes.
     pub width: usize,
-    /// A row for each state, and [`CLASSES_LEN`] numbers more: from the place of a row on there is one for any class.
+    /// A row for each state, and [`CLASSES_LEN`] more numbers, so that any class can be looked up in any row.
     pub rows: &'t [u32],
-    /// How long the longest pattern is.
+    /// The length of the longest pattern.
     pub longest: usize,
 }
 
 impl<'t> Table<'t> {
-    /// Below which place rows begin: behind it there is a number for any class.
+    /// The bound for the indices of rows. After every index below it there is a number for any class. It is at most
+    /// [`ENDS`]. So one comparison of a number with it tests for both: that a pattern ends, and that the number is
+    /// damaged.
     #[inline(always)]
     pub fn limit(&self) -> Result<usize, Damaged>
         ensures { MatchResult result
@@ -65,49 +67,49 @@ impl<'t> Table<'t> {
         Ok((self.rows.len() - CLASSES_LEN).min(ENDS as usize))
     }
 
-    /// The number in the row that begins at a place for a byte of the haystack, which so counts as scanned. What begins
-    /// at the class is known before the place is, so that a walk waits for one look-up a byte, and for no sum.
+    /// The number for a byte of the haystack in the row at an index; this counts as scanned. The slice from the class
+    /// on is made before the index is known. So a walk waits for one look-up for each byte, and for no sum.
     #[inline(always)]
-    pub(crate) fn code_at(&self, place: usize, haystack: &[u8], at: usize, tally: &mut Tally) -> u32
+    pub(crate) fn code_at(&self, row: usize, haystack: &[u8], at: usize, tally: &mut Tally) -> u32
         requires classes { length self.now.classes.now ≡ 64 }
         requires inside { at < length haystack.now }
-        requires within { place + CLASSES_LEN ≤ length self.now.rows.now }
+        requires within { row + CLASSES_LEN ≤ length self.now.rows.now }
         ensures number { AreClasses (classes_by self.now) self.now.width
-            → place + self.now.width < length (rows_by self.now) → result ≡ slice_index (rows_by self.now)
-            (place + slice_index (classes_by self.now) (slice_index haystack.now at)) }
+            → row + self.now.width < length (rows_by self.now) → result ≡ slice_index (rows_by self.now)
+            (row + slice_index (classes_by self.now) (slice_index haystack.now at)) }
         ensures ticks { tally.new ≡ record tally.old { scanned = tally.old.scanned + 1 } }
     {
         tally.tick_scanned();
-        self.code_for(place, haystack[at])
+        self.code_for(row, haystack[at])
     }
 
-    /// The number in the row that begins at a place for a byte.
+    /// The number for a byte in the row at an index.
     #[inline(always)]
-    pub(crate) fn code_for(&self, place: usize, byte: u8) -> u32
+    pub(crate) fn code_for(&self, row: usize, byte: u8) -> u32
         requires classes { length self.now.classes.now ≡ 64 }
-        requires within { place + CLASSES_LEN ≤ length self.now.rows.now }
+        requires within { row + CLASSES_LEN ≤ length self.now.rows.now }
         ensures { AreClasses (classes_by self.now) self.now.width
-            → place + self.now.width < length (rows_by self.now) → result ≡ slice_index (rows_by self.now)
-            (place + slice_index (classes_by self.now) byte) }
+            → row + self.now.width < length (rows_by self.now) → result ≡ slice_index (rows_by self.now)
+            (row + slice_index (classes_by self.now) byte) }
     {
         let byte = byte as usize;
         let class = (self.classes[byte / 4] >> (8 * (byte % 4))) % 256;
-        self.rows[class as usize..][place]
+        self.rows[class as usize..][row]
     }
 
-    /// The pattern that ends with the state whose row begins at a place. A lent width may lead out of the rows.
+    /// The pattern that ends with the state whose row is at an index. A lent width may point outside the rows.
     #[inline(always)]
-    pub(crate) fn ending_at(&self, place: usize) -> Result<u32, Damaged>
-        ensures { place + self.now.width < length (rows_by self.now)
-            → IsOkAnd result (λ pattern. pattern ≡ slice_index (rows_by self.now) (place + self.now.width)) }
+    pub(crate) fn ending_at(&self, row: usize) -> Result<u32, Damaged>
+        ensures { row + self.now.width < length (rows_by self.now)
+            → IsOkAnd result (λ pattern. pattern ≡ slice_index (rows_by self.now) (row + self.now.width)) }
     {
-        let at = place.saturating_add(self.width);
+        let at = row.saturating_add(self.width);
         let pattern = self.rows.get(at).ok_or(Damaged)?;
         Ok(*pattern)
     }
 
-    /// Walks from a row on through a span until a pattern ends, or, from the least place on, the walk is back in the
-    /// first state.
+    /// Walks from a row through a span until a pattern ends, or until the walk is back in the start state, past the
+    /// offset `least`.
     #[inline(never)]
     pub fn reach(
         &self,
@@ -131,24 +133,25 @@ impl<'t> Table<'t> {
         if from >= limit {
             return Err(Damaged);
         }
-        let mut place = from;
+        let mut row = from;
         for at in span.start..span.end {
-            let code = self.code_at(place, haystack, at, tally);
+            let code = self.code_at(row, haystack, at, tally);
+            // (0 is the number for the start state: no pattern that ends later has begun yet)
             if at >= least && code == 0 {
                 return Ok(Reached::Back(at + 1));
             }
             if code as usize >= limit {
-                let place = behind_end(code, limit)?;
-                return Ok(Reached::Ends(Stop { place, end: at + 1 }));
+                let row = row_at_end(code, limit)?;
+                return Ok(Reached::Ends(WalkEnd { row, end: at + 1 }));
             }
-            place = code as usize;
+            row = code as usize;
         }
         Ok(Reached::Nowhere)
     }
 
-    /// Whether nothing occurs in any of four spans, each as long as a block and the longest pattern, which begin one
-    /// block behind another. It walks through all four at once, so that no look-up waits for those of the others. Where
-    /// a number leads out of the rows it does not know.
+    /// Whether nothing occurs in any of four spans, one block apart, each as long as a block plus the longest pattern.
+    /// Four walks run at once, so that no look-up waits for another. If a number points outside the rows, it is
+    /// `false`.
     #[inline(never)]
     pub fn none_in_four(
         &self,
@@ -194,7 +197,7 @@ impl<'t> Table<'t> {
         true
     }
 
-    /// The class of each byte as a byte. Four walks at once take longer by any step more, and none over these.
+    /// The class of each byte, as bytes. Any further step per look-up would slow down four walks at once.
     #[inline(always)]
     pub fn class_bytes(&self) -> [u8; 256]
         requires { length self.now.classes.now ≡ 64 }
@@ -205,52 +208,52 @@ impl<'t> Table<'t> {
         bytes
     }
 
-    /// As [`Table::code_by`], to be compared with a place.
+    /// Like [`Table::code_by`], to be compared with an index.
     #[inline(always)]
     pub(crate) fn next_at(
         &self,
         classes: &[u8; 256],
-        place: usize,
+        row: usize,
         haystack: &[u8],
         at: usize,
         tally: &mut Tally,
     ) -> usize
         requires same { classes.now ≡ classes_by self.now }
         requires inside { at < length haystack.now }
-        requires within { place + CLASSES_LEN ≤ length self.now.rows.now }
+        requires within { row + CLASSES_LEN ≤ length self.now.rows.now }
         ensures number { AreClasses (classes_by self.now) self.now.width
-            → place + self.now.width < length (rows_by self.now) → result ≡ slice_index (rows_by self.now)
-            (place + slice_index (classes_by self.now) (slice_index haystack.now at)) }
+            → row + self.now.width < length (rows_by self.now) → result ≡ slice_index (rows_by self.now)
+            (row + slice_index (classes_by self.now) (slice_index haystack.now at)) }
         ensures fits { result < 2 ^ 32 }
         ensures ticks { tally.new ≡ record tally.old { scanned = tally.old.scanned + 1 } }
     {
-        self.code_by(classes, place, haystack, at, tally) as usize
+        self.code_by(classes, row, haystack, at, tally) as usize
     }
 
-    /// As [`Table::code_at`], by the classes as bytes.
+    /// Like [`Table::code_at`], with the classes as bytes.
     #[inline(always)]
     pub(crate) fn code_by(
         &self,
         classes: &[u8; 256],
-        place: usize,
+        row: usize,
         haystack: &[u8],
         at: usize,
         tally: &mut Tally,
     ) -> u32
         requires same { classes.now ≡ classes_by self.now }
         requires inside { at < length haystack.now }
-        requires within { place + CLASSES_LEN ≤ length self.now.rows.now }
+        requires within { row + CLASSES_LEN ≤ length self.now.rows.now }
         ensures number { AreClasses (classes_by self.now) self.now.width
-            → place + self.now.width < length (rows_by self.now) → result ≡ slice_index (rows_by self.now)
-            (place + slice_index (classes_by self.now) (slice_index haystack.now at)) }
+            → row + self.now.width < length (rows_by self.now) → result ≡ slice_index (rows_by self.now)
+            (row + slice_index (classes_by self.now) (slice_index haystack.now at)) }
         ensures ticks { tally.new ≡ record tally.old { scanned = tally.old.scanned + 1 } }
     {
         let class = class_by(classes, haystack, at, tally);
-        self.rows[class..][place]
+        self.rows[class..][row]
     }
 }
 
-/// The class of a byte of the haystack, which so counts as scanned.
+/// The class of a byte of the haystack; this counts as scanned.
 #[inline(always)]
 pub(crate) fn class_by(classes: &[u8; 256], haystack: &[u8], at: usize, tally: &mut Tally) -> usize
     requires { at < length haystack.now }
@@ -262,10 +265,10 @@ pub(crate) fn class_by(classes: &[u8; 256], haystack: &[u8], at: usize, tally: &
     classes[haystack[at] as usize] as usize
 }
 
-/// Where the row begins to which a number leads with which a match ends.
+/// The index of the row to which a number leads that says that a match ends.
 #[inline(always)]
-fn behind_end(code: u32, limit: usize) -> Result<usize, Damaged>
-    ensures { MatchResult result (λ place. (2 ^ 31 ≤ code) × (place ≡ code - 2 ^ 31) × (place < limit))
+pub(crate) fn row_at_end(code: u32, limit: usize) -> Result<usize, Damaged>
+    ensures { MatchResult result (λ row. (2 ^ 31 ≤ code) × (row ≡ code - 2 ^ 31) × (row < limit))
         (λ _. (code < 2 ^ 31) ⊎ (2 ^ 31 + limit ≤ code)) }
 {
     if code < ENDS || (code - ENDS) as usize >= limit {

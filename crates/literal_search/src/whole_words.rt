@@ -4,13 +4,14 @@ ghost use Rattle.std.specs.Prelude.{OnErr, false, length};
 ghost use Rattle.literal_base.specs.Bytes.{contains};
 ghost use Rattle.literal_base.specs.Given.{CanBeTaken};
 ghost use Rattle.literal_base.specs.Occurs.{IsValidSpan, pattern_at, whole_of};
-ghost use Rattle.literal_search.specs.SearchValue.{BuildsSearch, NeedFewReversed, NeedTooManyReversed, RefusesSearch};
+ghost use Rattle.literal_search.specs.SearchValue.{BuildsSearch, CanBeKept, NeedFewReversed, NeedTooManyReversed};
+ghost use Rattle.literal_search.specs.SearchValue.{RefusesSearch};
 ghost use Rattle.literal_search.specs.WholeWords.{AreWholeWords, GivesWholeWord, IsFirstAlone};
 ghost use Rattle.literal_search.specs.WholeWords.{NothingAlone, OccursAlone, ScansFirstWord, ScansWords};
 ghost use Rattle.literal_search.specs.WholeWords.{is_ascii_word_byte, most_words_to_come};
 
 use crate::BuildError;
-use crate::backward::{GoesOn, place_after};
+use crate::backward::{Continuation, offset_after};
 use crate::search::Search;
 use crate::word_search::{KnownStarts, Words};
 use literal_base::alphabet::ByteSet;
@@ -21,13 +22,13 @@ use literal_ids::PatternID;
 use std::alloc::{AllocError, Global};
 use std::marker::Model;
 
-/// Searches for whole words: occurrences of patterns with no word byte right before them, and none right after them.
-/// The bytes of the haystack next to a span count too. Contracts see the kind of match, the patterns, whether ASCII
-/// case is ignored, and which bytes are word bytes.
+/// Searches for whole words: occurrences of patterns with no word byte right before and none right after them. The
+/// bytes of the haystack next to a span count too. Contracts see the match kind, the patterns, whether ASCII case is
+/// ignored, and which bytes are word bytes.
 ///
-/// The leftmost whole word is the one that begins first; of those that begin at one offset it is the one that the match
-/// kind prefers. A pattern that is no whole word hides no other pattern. So with [`MatchKind::LeftmostFirst`] a pattern
-/// is found that has an earlier one as a prefix, if it is a whole word and the earlier one is not.
+/// The leftmost whole word is the one that begins first; if several begin there, the match kind decides. A pattern that
+/// is no whole word hides no other. So with [`MatchKind::LeftmostFirst`], a whole word is found even if an earlier
+/// pattern is its prefix, unless that one is a whole word too.
 ///
 /// ```rust
 /// let words = [b"new york".as_slice(), b"york"];
@@ -41,8 +42,8 @@ pub struct WholeWords {
     parts: Parts,
 }
 
-/// What a search for whole words reads. Its search takes the longest match, whatever the kind is: by the other rule a
-/// pattern that has an earlier one as a prefix never matches.
+/// The data of a search for whole words. Its search prefers the longest match for either match kind, since with the
+/// other rule a pattern never matches if an earlier one is its prefix.
 #[derive(Drop)]
 struct Parts {
     kind: MatchKind,
@@ -62,8 +63,8 @@ impl Model for WholeWords {
 }
 
 impl WholeWords {
-    /// The search for the patterns that the iterator gives as whole words, by this kind of match, with ASCII case
-    /// ignored or not, and with these word bytes. The iterator has to end. Errors come as by [`Search::new`].
+    /// Builds a search for the patterns that an iterator gives, as whole words, with this match kind, with ASCII case
+    /// ignored or kept, and with these word bytes. The iterator has to end. The errors are those of [`Search::new`].
     pub fn new<'a, I: IntoIterator<Item = &'a [u8]>>(
         alloc: Global,
         kind: MatchKind,
@@ -88,7 +89,7 @@ impl WholeWords {
         Ok(WholeWords { parts })
     }
 
-    /// The ASCII letters, the digits and the underscore.
+    /// Returns the set of the ASCII letters, the digits and the underscore.
     pub fn ascii_word_bytes() -> ByteSet
         ensures { (b : ℕ) → contains result b ≡ is_ascii_word_byte b }
     {
@@ -101,7 +102,7 @@ impl WholeWords {
         set
     }
 
-    /// The leftmost whole word in the haystack: [`WholeWords::find_in`] of all of it.
+    /// Returns the leftmost whole word in the whole haystack, as [`WholeWords::find_in`] does for a span.
     pub fn find(&self, haystack: &[u8]) -> Option<Match>
         ensures leftmost { IsFirstAlone self.now haystack.now (whole_of haystack.now) result }
         ensures not_empty { IfSome result (λ found. found.start < found.end) }
@@ -110,9 +111,9 @@ impl WholeWords {
         self.find_in(haystack, Span { start: 0, end })
     }
 
-    /// The leftmost whole word in a span of the haystack: of those that lie whole in the span the one that begins
-    /// first, and of those that begin there the one that the match kind prefers. Offsets, in the answer too, are in
-    /// bytes of the whole haystack. The span has to be valid. No memory is asked for.
+    /// Returns the leftmost whole word in a span of the haystack. Only words that lie whole in the span count. The one
+    /// that begins first wins; if several begin there, the match kind decides. All offsets are in bytes of the whole
+    /// haystack. The span has to be valid. Allocates nothing.
     pub fn find_in(&self, haystack: &[u8], span: Span) -> Option<Match>
         requires { IsValidSpan haystack.now span }
         ensures leftmost { IsFirstAlone self.now haystack.now span result }
@@ -121,10 +122,10 @@ impl WholeWords {
         self.find_in_counted(haystack, span, &mut Tally::new())
     }
 
-    /// Answers as [`WholeWords::find_in`], and adds each byte that it looks up to a tally, as scanned. If no pattern
-    /// has more than 1,024 bytes, these are at most three times the bytes of the span, and in addition, for each byte
-    /// up to the start of the match, the square of one more than the length of the longest pattern. With a longer
-    /// pattern, each of these bytes may cost three times the span more.
+    /// Like [`WholeWords::find_in`], and counts each looked-up byte in the tally, as scanned. If no pattern has more
+    /// than 1,024 bytes, these are at most three times the bytes of the span, plus (n + 1)^2 for each byte up to and
+    /// including the match's first, where n is the longest pattern's length; without a match, for each byte of the
+    /// span. With a longer pattern, each of these bytes may add three times the span.
     pub fn find_in_counted(&self, haystack: &[u8], span: Span, tally: &mut Tally) -> Option<Match>
         requires { IsValidSpan haystack.now span }
         ensures leftmost { IsFirstAlone self.now haystack.now span result }
@@ -139,7 +140,7 @@ impl WholeWords {
         answer
     }
 
-    /// Whether a pattern occurs in the haystack as a whole word.
+    /// Returns whether a pattern occurs in the haystack as a whole word.
     pub fn is_match(&self, haystack: &[u8]) -> bool
         ensures { IsTrue result ↔ ((i : ℕ) × (at : ℕ) × OccursAlone self.now.search.query.patterns
             self.now.search.ignore_case self.now.word_bytes haystack.now (whole_of haystack.now) i at) }
@@ -147,9 +148,9 @@ impl WholeWords {
         self.find(haystack).is_some()
     }
 
-    /// All whole words in the haystack, from the left, none of which overlaps another: first the leftmost one of the
-    /// haystack, and after each the leftmost one of what is left after it. The iterator borrows the haystack, and ends
-    /// with the first `None`.
+    /// Returns an iterator over all whole words in the haystack that do not overlap: first the leftmost one, then each
+    /// time the leftmost one after the end of the previous one. The iterator borrows the haystack. It ends with its
+    /// first `None`.
     pub fn find_iter<'s, 'h>(&'s self, haystack: &'h [u8]) -> WholeWordMatches<'s, 'h>
         ensures { result ≡ record {
           words = self.now;
@@ -164,8 +165,7 @@ impl WholeWords {
         self.find_iter_in(haystack, Span { start: 0, end })
     }
 
-    /// The same in a span of the haystack. Each match lies whole in the span, which has to be valid. No memory is asked
-    /// for.
+    /// The same in a span of the haystack. Each match lies whole in the span, which has to be valid. Allocates nothing.
     pub fn find_iter_in<'s, 'h>(
         &'s self,
         haystack: &'h [u8],
@@ -192,7 +192,7 @@ impl WholeWords {
         }
     }
 
-    /// The list of what [`WholeWords::find_iter`] gives. Memory is asked for only where there is a whole word.
+    /// Returns the list of all matches that [`WholeWords::find_iter`] gives. Allocates only if there is one.
     pub fn find_all(&self, haystack: &[u8]) -> Result<Vec<Match>, AllocError>
         ensures all { IfOk result
             (λ all. AreWholeWords self.now haystack.now (whole_of haystack.now) all.items) }
@@ -202,8 +202,8 @@ impl WholeWords {
         self.find_all_in(haystack, Span { start: 0, end })
     }
 
-    /// The list of what [`WholeWords::find_iter_in`] gives, for a span that is valid. Memory is asked for only where
-    /// there is a whole word.
+    /// Returns the list of all matches that [`WholeWords::find_iter_in`] gives. The span has to be valid. Allocates
+    /// only if there is one.
     pub fn find_all_in(&self, haystack: &[u8], span: Span) -> Result<Vec<Match>, AllocError>
         requires { IsValidSpan haystack.now span }
         ensures all { IfOk result (λ all. AreWholeWords self.now haystack.now span all.items) }
@@ -216,35 +216,36 @@ impl WholeWords {
         Ok(all)
     }
 
-    /// Which of the patterns that match at one place is taken.
+    /// Returns the match kind, which decides between whole words that begin at the same offset.
     pub fn match_kind(&self) -> MatchKind
         ensures { result ≡ self.now.search.query.kind }
     {
         self.parts.kind
     }
 
-    /// Whether ASCII case is ignored.
+    /// Returns whether ASCII case is ignored.
     pub fn ignores_case(&self) -> bool
         ensures { result ≡ self.now.search.ignore_case }
     {
         self.parts.search.ignores_case()
     }
 
-    /// The word bytes.
+    /// Returns the set of word bytes.
     pub fn word_bytes(&self) -> ByteSet
         ensures { result ≡ self.now.word_bytes }
     {
         self.parts.word_bytes
     }
 
-    /// How many patterns there are, none of them empty.
+    /// Returns the number of patterns. None of them is empty.
     pub fn patterns_len(&self) -> usize
-        ensures { result ≡ length self.now.search.query.patterns }
+        ensures len { result ≡ length self.now.search.query.patterns }
+        ensures patterns { CanBeKept self.now.search.query.patterns }
     {
         self.parts.search.patterns_len()
     }
 
-    /// The bytes of the pattern of a number, as they were given, and `None` where there is none of that number.
+    /// Returns the bytes of the pattern with this number, as they were given, or `None` if there is no such pattern.
     pub fn pattern(&self, id: PatternID) -> Option<&[u8]>
         ensures { MatchOption result (length self.now.search.query.patterns ≤ id)
             (λ bytes. (id < length self.now.search.query.patterns)
@@ -254,9 +255,9 @@ impl WholeWords {
     }
 }
 
-/// What [`WholeWords::find_iter_in`] goes over. Contracts see the words, the haystack, the span, the place from which
-/// the list goes on, the place from which it looks for the next pattern, and up to which place it has looked. After its
-/// first `None` it keeps answering `None`.
+/// The iterator of [`WholeWords::find_iter_in`]. Contracts see the words, the haystack, the span, the offset from which
+/// it continues, the offset from which it looks for the next pattern, and the offset up to which it has looked. After
+/// its first `None` it always answers `None`.
 #[derive(Drop)]
 pub struct WholeWordMatches<'s, 'h> {
     parts: &'s Parts,
@@ -289,9 +290,9 @@ impl<'s, 'h> Model for WholeWordMatches<'s, 'h> {
 }
 
 impl<'s, 'h> WholeWordMatches<'s, 'h> {
-    /// Answers as `next`, and adds each byte that it looks up to a tally, as scanned. If no pattern has more than 1,024
-    /// bytes, these are at most three times the bytes of the span that no call before it has looked up, and in addition
-    /// the square of one more than the length of the longest pattern, for each byte by which the call gets on.
+    /// Like `next`, and counts each looked-up byte in the tally, as scanned. If no pattern has more than 1,024 bytes,
+    /// these are at most three times the bytes of the span that no earlier call has looked up, plus (n + 1)^2 for each
+    /// byte by which the call advances, where n is the longest pattern's length.
     pub fn next_counted(&mut self, tally: &mut Tally) -> Option<Match>
         ensures gives { GivesWholeWord self.old result self.new }
         ensures scans { ScansWords self.old.words.search.query.patterns self.old.span self.old.from self.new.from
@@ -305,7 +306,7 @@ impl<'s, 'h> WholeWordMatches<'s, 'h> {
         let Ok(answer) = next else {
             unreachable!();
         };
-        self.at = place_after(GoesOn::AtEnd, span, &answer);
+        self.at = offset_after(Continuation::AtEnd, span, &answer);
         answer
     }
 }

@@ -1,4 +1,4 @@
-//! What is known of a text that is read piece by piece.
+//! The known part of a text that is read in pieces.
 ghost use Rattle.std.specs.Prelude.{◌≡◌, ◌+◌, ◌<◌, ◌≤◌, ◌++◌, [], ℕ, List, None, drop, length, IfOk};
 ghost use Rattle.std.specs.Io.KnownBytes.{Consumes};
 ghost use Rattle.literal_search.specs.Inside.Stream.{HasReadOn, IsOpen, IsSoundReading, IsWindow, held};
@@ -7,21 +7,21 @@ use crate::reading::Reading;
 use std::alloc::{AllocError, Global};
 use std::io::Read;
 
-/// How many bytes are asked for at a time, at least.
+/// The least number of bytes that one read asks for.
 const BLOCK: usize = 1 << 16;
 
-/// The bytes of a text that were read last, from where a search goes on.
+/// The last bytes that were read, from the offset at which a search continues.
 #[derive(Drop)]
 pub(crate) struct Window {
     bytes: Vec<u8>,
     start: usize,
     end: usize,
-    /// How many bytes of the text come before them.
+    /// The number of bytes of the text before them.
     pub(crate) offset: usize,
 }
 
 impl Window {
-    /// An empty one with room for more than so many bytes and for a block.
+    /// An empty window with room for more than `len` bytes and for a block.
     pub(crate) fn new(alloc: Global, len: usize) -> Result<Window, AllocError>
         ensures window { IfOk result (λ w. IsWindow w × (len < length w.bytes.items)) }
         ensures empty { IfOk result (λ w. held w ≡ []) }
@@ -37,7 +37,7 @@ impl Window {
         })
     }
 
-    /// These bytes.
+    /// The held bytes.
     pub(crate) fn held(&self) -> &[u8]
         requires { IsWindow self.now }
         ensures { result.now ≡ held self.now }
@@ -45,8 +45,8 @@ impl Window {
         &self.bytes[self.start..self.end]
     }
 
-    /// Goes on behind the first of them.
-    #[tactic(auto, using(crate::proofs::lemmas::Streams::part_behind, crate::proofs::lemmas::Streams::part_len))]
+    /// Drops the first held bytes.
+    #[tactic(auto, using(crate::proofs::lemmas::Streams::part_behind, crate::proofs::lemmas::Prepared::length_part))]
     pub(crate) fn pass(&mut self, count: usize)
         requires window { IsWindow self.old }
         requires within { count ≤ length (held self.old) }
@@ -59,8 +59,7 @@ impl Window {
         self.offset += count;
     }
 
-    /// Reads some more of the text, where it is not over and that does not fail. They must be so few that there is room
-    /// for more.
+    /// Reads more of the text, unless it ends or reading fails. The window has to have room.
     pub(crate) fn read_more<R: Read>(&mut self, reader: &mut R, reading: &mut Reading)
         requires window { IsWindow self.old }
         requires room { length (held self.old) < length self.old.bytes.items }
@@ -84,7 +83,7 @@ impl Window {
         self.end += count;
     }
 
-    /// Reads until so many bytes are held, or as many as there are.
+    /// Reads until this many bytes are held, or no more can be read.
     pub(crate) fn fill<R: Read>(&mut self, reader: &mut R, reading: &mut Reading, enough: usize)
         requires window { IsWindow self.old }
         requires room { enough ≤ length self.old.bytes.items }
@@ -105,7 +104,7 @@ impl Window {
         }
     }
 
-    /// Moves them to the front where they reach to the end of the room.
+    /// Moves the held bytes to the front if they reach the end of the room.
     fn make_room(&mut self)
         requires window { IsWindow self.old }
         requires room { length (held self.old) < length self.old.bytes.items }

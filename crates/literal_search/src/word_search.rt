@@ -1,11 +1,11 @@
-//! The search for whole words, by tables that a search owns or that are lent. Lent ones may be any: they are damaged
-//! where a number leads out of the rows.
+//! The search for whole words, by tables that are owned or lent. Lent tables may be wrong: if a number points outside
+//! the rows, the answer is `Damaged`.
 ghost use Rattle.std.specs.Prelude.{◌≡◌, ◌+◌, ◌-◌, ◌*◌, ◌<◌, ◌≤◌, ℕ, IfOk, IfSome, MatchOption, None, false, length};
 ghost use Rattle.std.specs.Result.{IsOkAnd};
 ghost use Rattle.literal_base.specs.Leftmost.{IsLeftmost};
 ghost use Rattle.literal_base.specs.Occurs.{IsValidSpan, between};
 ghost use Rattle.literal_base.specs.declared.packed.MatchKind.TheVariants.{LeftmostFirst, LeftmostLongest};
-ghost use Rattle.literal_search.specs.MatchesValue.{place_further};
+ghost use Rattle.literal_search.specs.MatchesValue.{offset_after_start};
 ghost use Rattle.literal_search.specs.SearchValue.{ScansNext, looked_by};
 ghost use Rattle.literal_search.specs.WholeWords.{IsFirstAlone, ScansFirstWordBy, ScansWordsAtMost};
 ghost use Rattle.literal_search.specs.WholeWords.{is_word_at, is_word_before};
@@ -13,15 +13,15 @@ ghost use Rattle.literal_search.specs.Inside.Backward.{ForBackward, IsMatchBy, I
 ghost use Rattle.literal_search.specs.Inside.WholeWords.{AreKnownStarts, ForWords, IsBestWord, IsEarlier};
 ghost use Rattle.literal_search.specs.Inside.WholeWords.{IsMatchAtStart, IsWordAt, ScansEnds, whole_words_value};
 
-use crate::backward::{Backward, GoesOn, LEAST, Marks, no_marks, place_after};
+use crate::backward::{Backward, Continuation, LEAST, Marks, no_marks, offset_after};
 use crate::prepared::Damaged;
 use literal_base::alphabet::ByteSet;
 use literal_base::count::Tally;
 use literal_base::packed::MatchKind;
 use literal_base::{Match, Span};
 
-/// What a search for whole words reads. The tables are those of a search that takes the longest match, whatever the
-/// kind is: by the other rule a pattern that has an earlier one as a prefix never matches.
+/// The data of a search for whole words. The tables are those of a search that prefers the longest match, for either
+/// match kind, since with the other rule a pattern never matches if an earlier one is its prefix.
 #[derive(Clone, Copy)]
 pub struct Words<'t> {
     pub kind: MatchKind,
@@ -29,7 +29,7 @@ pub struct Words<'t> {
     pub word_bytes: ByteSet,
 }
 
-/// From which offset on the next start of a pattern is looked for, and which starts are known there.
+/// The offset from which the next start of a pattern is looked for, and the starts that are known from there on.
 #[derive(Clone, Copy)]
 pub struct KnownStarts {
     pub at: usize,
@@ -38,7 +38,7 @@ pub struct KnownStarts {
 }
 
 impl KnownStarts {
-    /// The starts from an offset on, of which none is known.
+    /// No start is known from an offset on.
     pub fn new(at: usize) -> KnownStarts
         ensures at { result.at ≡ at }
         ensures marks { result.marks ≡ record { first = at; upto = at; known = at; part = 0 } }
@@ -52,7 +52,7 @@ impl KnownStarts {
 }
 
 impl<'t> Words<'t> {
-    /// What a search for whole words reads, by the tables of a search.
+    /// The data of a search for whole words, from the tables of a search.
     pub fn new(kind: MatchKind, backward: Backward<'t>, word_bytes: ByteSet) -> Words<'t>
         ensures { result ≡ record { kind = kind; backward = backward.entry; word_bytes = word_bytes } }
     {
@@ -84,7 +84,7 @@ impl<'t> Words<'t> {
         self.next_word(haystack, span, span.start, starts, tally)
     }
 
-    /// The next whole word from an offset on, by the starts from an offset before it on.
+    /// The next whole word from an offset on. The starts are looked for from an offset before it on.
     pub fn next_word(
         &self,
         haystack: &[u8],
@@ -100,7 +100,7 @@ impl<'t> Words<'t> {
             (IsFirstAlone (whole_words_value parts) haystack.now (between at span.end))) }
         ensures lies { IfOk result (λ answer. IfSome answer (IsMatchBy self.now.backward span at)) }
         ensures starts { IfOk result (λ _. AreKnownStarts self.now haystack.now span starts.new) }
-        ensures at { IfOk result (λ answer. starts.new.at ≡ place_further span answer) }
+        ensures at { IfOk result (λ answer. starts.new.at ≡ offset_after_start span answer) }
         ensures further { IfOk result (λ _. starts.old.marks.known ≤ starts.new.marks.known) }
         ensures scans { IfOk result (λ _. ScansWordsAtMost self.now.backward.table.longest span starts.old.at
             starts.new.at starts.old.marks.known starts.new.marks.known tally.old tally.new) }
@@ -132,7 +132,7 @@ impl<'t> Words<'t> {
             tables.search.ignore_case haystack.now (between starts.old.at span.end))) }
         ensures lies { IfOk result (λ answer. IfSome answer (IsMatchBy self.now.backward span starts.old.at)) }
         ensures starts { IfOk result (λ _. AreKnownStarts self.now haystack.now span starts.new) }
-        ensures at { IfOk result (λ answer. starts.new.at ≡ place_further span answer) }
+        ensures at { IfOk result (λ answer. starts.new.at ≡ offset_after_start span answer) }
         ensures further { IfOk result (λ _. starts.old.marks.known ≤ starts.new.marks.known) }
         ensures others { tally.new ≡ record tally.old { scanned = tally.new.scanned } }
         ensures most { tally.new.scanned ≤ tally.old.scanned + 3 * (span.end - starts.old.marks.known) }
@@ -140,17 +140,17 @@ impl<'t> Words<'t> {
             starts.old.marks.known starts.new.marks.known answer tally.old tally.new) }
         ensures ended { starts.old.at ≡ span.end → IsOkAnd result (λ answer. answer ≡ None) }
     {
-        let on = GoesOn::AfterStart;
+        let on = Continuation::AfterStart;
         let KnownStarts { at, numbers, marks } = starts;
         let answer = self
             .backward
             .next_in(haystack, span, *at, on, numbers, marks, tally)?;
-        *at = place_after(on, span, &answer);
+        *at = offset_after(on, span, &answer);
         Ok(answer)
     }
 
-    /// Of the whole words that begin at the start of a span, and lie whole in it, the one that the match kind prefers.
-    /// If the span begins before an offset, there is none.
+    /// The whole word that the match kind prefers, of those that begin at the start of a span and lie whole in it. If
+    /// the span begins before the offset `from`, there is none.
     fn best_word(
         &self,
         haystack: &[u8],
@@ -180,7 +180,7 @@ impl<'t> Words<'t> {
         }
     }
 
-    /// Of the whole words that begin at the start of a span, before which no word byte is, the first in the list.
+    /// The whole word at the start of a span whose pattern is the first in the list. No word byte is before the span.
     fn first_word(
         &self,
         haystack: &[u8],
@@ -206,7 +206,7 @@ impl<'t> Words<'t> {
         Ok(first)
     }
 
-    /// The longest whole word that begins at the start of a span, before which no word byte is.
+    /// The longest whole word at the start of a span. No word byte is before the span.
     fn longest_word(
         &self,
         haystack: &[u8],
@@ -253,7 +253,7 @@ impl<'t> Words<'t> {
         at > 0 && self.is_word_at(haystack, at - 1, tally)
     }
 
-    /// Whether a word byte is at an offset. This looks up one byte, or none at the end of the haystack.
+    /// Whether a word byte is at an offset. It looks up one byte, or none at the end of the haystack.
     fn is_word_at(&self, haystack: &[u8], at: usize, tally: &mut Tally) -> bool
         requires { at ≤ length haystack.now }
         ensures told { result ≡ is_word_at self.now.word_bytes haystack.now at }
@@ -269,8 +269,8 @@ impl<'t> Words<'t> {
     }
 }
 
-/// The one of two matches whose pattern is the first in the list.
-fn earlier(first: Option<Match>, found: Match) -> Match
+/// The match whose pattern is earlier in the list, of two.
+pub fn earlier(first: Option<Match>, found: Match) -> Match
     ensures { IsEarlier first found result }
 {
     match first {

@@ -1,4 +1,4 @@
--- What the words of a run ask for.
+-- The task of a run, by its arguments.
 use Rattle.std.specs.Prelude.{◌≡◌, ℕ, Bool, true, false, List, [], ◌∷◌, Option, Some, None, codes, if◌then◌else◌}
 use Rattle.std.specs.Str.{bytes_eq}
 use Rattle.literal_base.specs.declared.packed.MatchKind.TheVariants.{LeftmostFirst, LeftmostLongest}
@@ -7,12 +7,12 @@ use Rattle.literal_packed.specs.BuilderValue.{BuilderValue, builder_of, searcher
 use Rattle.literal_packed.specs.ConfigValue.{default_config}
 use Rattle.literal_prefilters.specs.ConfirmingValue.{confirming_of, prefilter_builder}
 
--- what the words may ask for: all matches of some patterns, or the leftmost one, with ASCII case ignored or not
+-- a task: to find all matches of some patterns, or the leftmost one, with ASCII case ignored or not
 pub data Task : Type 0 where
   all_matches : Query → Task
   leftmost_match : Query → Bool → Task
 
--- what the name of a mode and some patterns ask for, and None if the name is unknown
+-- the task of a mode of this name with some patterns, and None if the name is unknown
 abbrev pub mode_asks : List ℕ → List (List ℕ) → Option Task
 mode_asks name patterns =
     let first : Query = record { kind = LeftmostFirst; patterns = patterns } in
@@ -25,7 +25,7 @@ mode_asks name patterns =
     else if bytes_eq name (codes "nocase-longest") then Some (leftmost_match longest true)
     else None
 
--- what the words ask for. They have to be the name of a mode and at least one pattern; otherwise they ask for nothing
+-- the task of the arguments. They have to be the name of a mode and at least one pattern; otherwise it is None
 abbrev pub words_ask : List (List ℕ) → Option Task
 words_ask [] = None
 words_ask (mode ∷ []) = None
@@ -35,13 +35,13 @@ words_ask (mode ∷ (first ∷ more)) = mode_asks mode (first ∷ more)
 abbrev pub builder_for : Query → BuilderValue
 builder_for query = builder_of (record default_config { kind = query.kind }) query.patterns
 
--- there is no searcher for what is asked: a packed search or a confirming one cannot be built
+-- there is no searcher for this task: a packed search or a confirming one cannot be built
 abbrev pub IsUnbuildable : Task → Type 0
 IsUnbuildable (all_matches query) = searcher_of (builder_for query) ≡ None
 IsUnbuildable (leftmost_match query ignore_case) =
     confirming_of query.kind (prefilter_builder query.kind ignore_case query.patterns) ≡ None
 
--- the words ask for something, and there is no searcher for it
+-- the arguments have a task, and there is no searcher for it
 pub record AreUnbuildable (words : List (List ℕ)) : Type 0 where
   pub asked : Task
   pub ask : words_ask words ≡ Some asked

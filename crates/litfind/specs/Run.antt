@@ -1,22 +1,22 @@
--- What a run read and wrote. Of a reader a contract knows the bytes that are left, and of a writer
--- those that it holds, each as it was before the run and after it, where it tells.
+-- The input and output of a run. Contracts know the bytes left in a reader, and the bytes held by a writer, before the
+-- run and after it, if the reader or writer specifies them.
 use Rattle.std.specs.Prelude.{◌≡◌, ◌≢◌, ℕ, ◌↔◌, List, [], ◌++◌, Bool, IsTrue, Option}
 use Rattle.std.specs.Io.KnownBytes.{Appends, Consumes, IsAtEnd}
 use Rattle.litfind.specs.Lines.{AreLines}
 
--- of a reader and a writer that tell their bytes: these bytes were read, up to the end
+-- these bytes were read, up to the end, if the reader specifies its bytes
 pub record ReadsToEnd (had has : Option (List ℕ)) (input : List ℕ) : Type 0 where
   pub bytes : Consumes had has input
   pub end : IsAtEnd has
 
--- what was written is a beginning of the text
+-- a prefix of the text was written, possibly all of it
 pub record IsFront (held holds : Option (List ℕ)) (text : List ℕ) : Type 0 where
   pub front : List ℕ
   pub rest : List ℕ
   pub split : text ≡ front ++ rest
   pub written : Appends held holds front
 
--- bytes were read, perhaps none
+-- bytes were read, possibly none
 pub record ReadSome (had has : Option (List ℕ)) : Type 0 where
   pub input : List ℕ
   pub bytes : Consumes had has input
@@ -27,13 +27,13 @@ pub record ReadBytes (had has : Option (List ℕ)) : Type 0 where
   pub some : input ≢ []
   pub bytes : Consumes had has input
 
--- the input was read to its end, and it has a line
+-- the input was read to its end, and there is a line to print
 pub record HasLine (words : List (List ℕ)) (had has : Option (List ℕ)) : Type 0 where
   pub input : List ℕ
   pub read : ReadsToEnd had has input
   pub line : ¬ AreLines words input []
 
--- the input was read to its end and all its lines were written, and the answer tells whether there is a line
+-- the input was read to its end, all its lines were written, and the answer says whether there is a line
 pub record WroteLines (words : List (List ℕ)) (had has held holds : Option (List ℕ)) (printed : Bool) : Type 0 where
   pub input : List ℕ
   pub text : List ℕ
@@ -42,7 +42,7 @@ pub record WroteLines (words : List (List ℕ)) (had has held holds : Option (Li
   pub written : Appends held holds text
   pub answer : IsTrue printed ↔ (text ≢ [])
 
--- the input was read to its end, and a beginning of its lines was written
+-- the input was read to its end, and a prefix of its lines was written
 pub record WroteFront (words : List (List ℕ)) (had has held holds : Option (List ℕ)) : Type 0 where
   pub input : List ℕ
   pub text : List ℕ

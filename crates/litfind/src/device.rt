@@ -1,4 +1,4 @@
-//! What the program reads from and writes to: std's readers and writers, which remember a failure.
+//! Where the program reads from and writes to: std's readers and writers, which remember a failure.
 ghost use Rattle.std.specs.Prelude.{◌≡◌, ℕ, ◌<◌, ◌≤◌, Bool, false, List, Option, length, IfOk, is_ok, is_err};
 ghost use Rattle.std.specs.Io.KnownBytes.{Keeps, ReadConsumes, WriteAppends};
 ghost use Rattle.litfind.specs.Device.{device_of, gave_nothing};
@@ -12,19 +12,19 @@ use std::marker::Model;
 #[derive(Clone, Copy, Debug, PartialEq, Eq)]
 pub struct Failed;
 
-/// What bytes are read from. Once a read has failed or found the end, no other is made.
+/// A source of bytes. Once a read has failed or found the end, no other is made.
 pub trait Source {
-    /// The bytes that reads will give from here on, where they are known.
+    /// The bytes that are left to read, if they are known.
     ghost remaining: { Self → Option (List ℕ) };
 
     /// Whether a read has failed.
     ghost failed: { Self → Bool };
 
-    /// Whether a read into a buffer with room has given no byte.
+    /// Whether a read into a buffer with room has returned no byte.
     ghost ended: { Self → Bool };
 
-    /// Reads some bytes to the front of the buffer, and says how many. Into a buffer with room it
-    /// gives none only at the end.
+    /// Reads some bytes to the front of the buffer, and returns their number. With room in the buffer, it is 0 only at
+    /// the end.
     fn read(&mut self, buf: &mut [u8]) -> Result<usize, Failed>
         requires readable { failed self.old ≡ false }
         requires more { ended self.old ≡ false }
@@ -37,23 +37,23 @@ pub trait Source {
     fn has_failed(&self) -> bool
         ensures { result ≡ failed self.now };
 
-    /// Whether a read into a buffer with room has given no byte.
+    /// Whether a read into a buffer with room has returned no byte.
     fn has_ended(&self) -> bool
         ensures { result ≡ ended self.now };
 }
 
-/// What bytes are written to. After a failed call no other is made.
+/// A sink for bytes. After a failed call no other is made.
 pub trait Sink {
-    /// The bytes that the sink holds, where they are known.
+    /// The bytes that the sink holds, if they are known.
     ghost contents: { Self → Option (List ℕ) };
 
     /// Whether a call has failed.
     ghost failed: { Self → Bool };
 
-    /// Whether the last write or flush was a flush that succeeded.
+    /// Whether the last write or flush was a successful flush.
     ghost flushed: { Self → Bool };
 
-    /// Writes some bytes from the front of the buffer, at least one if it has any, and says how many.
+    /// Writes some bytes from the front of the buffer, at least one if it has any, and returns their number.
     fn write(&mut self, buf: &[u8]) -> Result<usize, Failed>
         requires { failed self.old ≡ false }
         ensures bound { IfOk result (λ n. n ≤ length buf.now) }
@@ -62,7 +62,7 @@ pub trait Sink {
         ensures failure { failed self.new ≡ is_err result }
         ensures unflushed { flushed self.new ≡ false };
 
-    /// Sends on what was written.
+    /// Flushes the bytes written before.
     fn flush(&mut self) -> Result<(), Failed>
         requires { failed self.old ≡ false }
         ensures bytes { Keeps (contents self.old) (contents self.new) }
@@ -74,8 +74,8 @@ pub trait Sink {
         ensures { result ≡ failed self.now };
 }
 
-/// A reader or a writer of std, with whether a call of it has failed, whether a read of it has found
-/// its end, and whether it is flushed. Contracts see these four.
+/// A reader or writer of std, with whether a call of it has failed, whether a read has found its end, and whether it is
+/// flushed. Contracts see these four.
 #[derive(Drop)]
 pub struct Checked<T> {
     inner: T,
@@ -98,7 +98,7 @@ impl<T> Model for Checked<T> {
 }
 
 impl<T> Checked<T> {
-    /// Of this reader or writer. No call of it has failed, and no read of it has found its end.
+    /// Wraps this reader or writer. No call of it has failed, and no read of it has found its end.
     pub fn new(inner: T) -> Checked<T>
         ensures { result ≡ device_of inner }
     {
@@ -110,7 +110,7 @@ impl<T> Checked<T> {
         }
     }
 
-    /// The reader or writer.
+    /// Unwraps the reader or writer.
     pub fn into_inner(self) -> T
         ensures { result ≡ self.inner }
     {

@@ -1,4 +1,4 @@
-//! The engine: the words and the whole input in, the whole text out.
+//! The engine: it reads the arguments and the whole input, and writes the whole output.
 ghost use Rattle.std.specs.Prelude.{◌≡◌, ◌≢◌, ◌⊎◌, ◌↔◌, true, false, map, Some, None, IfOk, IfErr, OnOk, OnErr};
 ghost use Rattle.std.specs.Prelude.{MatchOption, IfSome, IsErrOf, List, [], ℕ, ◌<◌, length, option_map, string_bytes};
 ghost use Rattle.std.specs.Io.KnownBytes.{Appends};
@@ -19,32 +19,32 @@ use literal_packed::{Config, MatchKind, Searcher};
 use literal_prefilters::prefilter::ConfirmingSearch;
 use std::alloc::{AllocError, Global};
 
-/// How many bytes are asked for at once.
+/// The size of the read buffer, in bytes.
 const BLOCK: usize = 65536;
 
-/// What the words ask for: how to search, and the patterns.
+/// The request of the arguments: how to search, and the patterns.
 #[derive(Clone, Copy)]
 struct Request<'w> {
     mode: Mode,
     patterns: &'w [String],
 }
 
-/// How to search, as the first word says: for which kind of match; for all of them, or for the leftmost
-/// one by a confirming search.
+/// How to search, as the first argument says: for all matches of this kind, or with a confirming search for the
+/// leftmost one.
 #[derive(Clone, Copy)]
 enum Mode {
     All(MatchKind),
     Leftmost { kind: MatchKind, ignore_case: bool },
 }
 
-/// What a mode searches by, once it is built of the patterns.
+/// The searcher of a mode, built from the patterns.
 #[derive(Drop)]
 enum ModeSearcher {
     All(Searcher),
     Leftmost(ConfirmingSearch),
 }
 
-/// The mode of this name.
+/// The mode of this name, if there is one.
 fn mode_of(name: &str) -> Option<Mode>
     ensures { (patterns : List (List ℕ)) → mode_asks name.now patterns ≡ option_map (asked_of patterns) result }
 {
@@ -60,7 +60,7 @@ fn mode_of(name: &str) -> Option<Mode>
     Some(Mode::Leftmost { kind, ignore_case })
 }
 
-/// The mode and the patterns, where the words are these.
+/// The mode and the patterns, if the arguments are valid.
 fn parse(words: &[String]) -> Option<Request<'_>>
     ensures { MatchOption result (words_ask (map string_bytes words.now) ≡ None)
         (λ request. words_ask (map string_bytes words.now)
@@ -76,7 +76,7 @@ fn parse(words: &[String]) -> Option<Request<'_>>
     })
 }
 
-/// A searcher for all matches of the patterns, where one can be built.
+/// A searcher for all matches of the patterns, if one can be built.
 fn build(
     alloc: Global,
     kind: MatchKind,
@@ -93,7 +93,7 @@ fn build(
     builder.build()
 }
 
-/// A confirming search for the patterns, where one can be built.
+/// A confirming search for the patterns, if one can be built.
 fn build_confirming(
     alloc: Global,
     kind: MatchKind,
@@ -111,7 +111,7 @@ fn build_confirming(
     ConfirmingSearch::build(alloc, kind, ignore_case, bytes)
 }
 
-/// A searcher for what is asked, where one can be built.
+/// The searcher of a request, if one can be built.
 fn built(alloc: Global, request: &Request<'_>) -> Result<Option<ModeSearcher>, AllocError>
     ensures asked { IfOk result (λ built. IfSome built (λ searcher.
         searches_for searcher ≡ asked_of (map string_bytes request.now.patterns.now) request.now.mode)) }
@@ -128,7 +128,7 @@ fn built(alloc: Global, request: &Request<'_>) -> Result<Option<ModeSearcher>, A
     }
 }
 
-/// A searcher for what the words ask for.
+/// The searcher for the arguments.
 fn searcher(alloc: Global, words: &[String]) -> Result<ModeSearcher, Fault>
     ensures asked { IfOk result (λ searcher. words_ask (map string_bytes words.now) ≡ Some (searches_for searcher)) }
     ensures usage { IsErrOf result Fault.Usage ↔ (words_ask (map string_bytes words.now) ≡ None) }
@@ -148,10 +148,9 @@ fn searcher(alloc: Global, words: &[String]) -> Result<ModeSearcher, Fault>
     Ok(searcher)
 }
 
-/// A line for each match, all of which are searched for. It stays out of line, by which the loop of the
-/// search comes to lie in the program where no jump of it crosses 32 bytes (docs/MEASURED.md). An edit
-/// of what lies before that loop may move it, and then a search with few patterns takes 25 to 40 percent
-/// more time, as `checks/speed` shows.
+/// The lines of all matches. The function is not inlined: in the program, no jump in the loop of the search then
+/// crosses a 32-byte boundary (docs/MEASURED.md). Edits of the code before that loop may move it; a search with few
+/// patterns then takes 25 to 40 percent more time, as `checks/speed` shows.
 #[inline(never)]
 fn all_lines(alloc: Global, searcher: &Searcher, input: &[u8]) -> Result<String, AllocError>
     ensures lines { IfOk result (λ text. AreMatchLines (all_matches searcher.now) input.now (string_bytes text)) }
@@ -165,7 +164,7 @@ fn all_lines(alloc: Global, searcher: &Searcher, input: &[u8]) -> Result<String,
     Ok(text)
 }
 
-/// A line for the leftmost match, if there is one.
+/// The line of the leftmost match, if there is one.
 fn leftmost_line(
     alloc: Global,
     search: &ConfirmingSearch,
@@ -190,8 +189,8 @@ fn leftmost_line(
 }
 
 impl ModeSearcher {
-    /// The lines of the matches in the whole input that the searcher is for. Memory is asked for only where
-    /// there is one.
+    /// The lines of the matches in the whole input, by the mode of the searcher. Memory is requested only if there is a
+    /// match.
     fn lines(&self, alloc: Global, input: &[u8]) -> Result<String, AllocError>
         ensures lines { IfOk result (λ text. AreMatchLines (searches_for self.now) input.now (string_bytes text)) }
         ensures no_memory { OnErr result (¬ AreMatchLines (searches_for self.now) input.now []) }
@@ -203,7 +202,7 @@ impl ModeSearcher {
     }
 }
 
-/// Reads to the end.
+/// Reads the input to its end.
 fn read_to_end<R: Source>(alloc: Global, reader: &mut R) -> Result<Vec<u8>, Fault>
     requires readable { R.failed reader.old ≡ false }
     requires more { R.ended reader.old ≡ false }
@@ -243,7 +242,8 @@ pub fn write_whole<W: Sink>(writer: &mut W, text: &[u8]) -> Result<(), Failed>
     writer.flush()
 }
 
-/// Reads the whole input, and forms a line for each match in it that the words ask for. They are looked at first.
+/// Reads the whole input, and returns a line for each match that the arguments request. The arguments are checked
+/// before the first read.
 fn read_lines<R: Source>(alloc: Global, words: &[String], reader: &mut R) -> Result<String, Fault>
     requires readable { R.failed reader.old ≡ false }
     requires more { R.ended reader.old ≡ false }
@@ -269,12 +269,10 @@ fn read_lines<R: Source>(alloc: Global, words: &[String], reader: &mut R) -> Res
     Ok(text)
 }
 
-/// Reads the whole input, and writes a line for each match of the patterns that the words ask for.
-/// The words are a mode and the patterns, whose bytes are searched for: all matches in the modes
-/// `first` and `longest`, and the leftmost one in `confirm-first` and `confirm-longest`, and with ASCII
-/// case ignored in `nocase-first` and `nocase-longest`.
-/// The answer says whether a line was written. No call of the reader or the writer is made again
-/// after it failed.
+/// Reads the whole input, and writes a line for each match that the arguments request. The arguments are a mode and the
+/// patterns, which are searched for as bytes. The modes `first` and `longest` find all matches. The modes
+/// `confirm-first` and `confirm-longest` find the leftmost match; `nocase-first` and `nocase-longest` ignore ASCII case
+/// in addition. Returns whether a line was written. After a failed call, the reader or the writer is not called again.
 pub fn run<R: Source, W: Sink>(
     alloc: Global,
     words: &[String],
@@ -285,33 +283,33 @@ pub fn run<R: Source, W: Sink>(
     requires more { R.ended reader.old ≡ false }
     requires writable { W.failed writer.old ≡ false }
 
-    // All lines of the whole input were written and sent on.
+    // All lines of the whole input were written and flushed.
     ensures ok { IfOk result (WroteLines (map string_bytes words.now)
         (R.remaining reader.old) (R.remaining reader.new)
         (W.contents writer.old) (W.contents writer.new)) }
     ensures flushed { OnOk result (W.flushed writer.new ≡ true) }
 
-    // The words are looked at first, before any read.
+    // The arguments are checked before the first read.
     ensures usage { IsErrOf result Fault.Usage ↔ (words_ask (map string_bytes words.now) ≡ None) }
     ensures no_searcher { IsErrOf result Fault.NoSearcher → AreUnbuildable (map string_bytes words.now) }
     ensures not_buildable { AreUnbuildable (map string_bytes words.now)
         → IsErrOf result Fault.NoSearcher ⊎ IsErrOf result Fault.OutOfMemory }
     ensures unread { IsErrOf result Fault.Usage ⊎ IsErrOf result Fault.NoSearcher → reader.new ≡ reader.old }
 
-    // Of the reader: what was read is some input, to its end where it is searched.
+    // The reader: some input was read, and to its end if it is searched.
     ensures read { ReadSome (R.remaining reader.old) (R.remaining reader.new) }
     ensures read_failed { IsErrOf result Fault.ReadFailed ↔ (R.failed reader.new ≡ true) }
     ensures ended { OnOk result (R.ended reader.new ≡ true) }
     ensures ended_at_write { IsErrOf result Fault.WriteFailed → R.ended reader.new ≡ true }
 
-    // Memory is refused before the first read, where the first pattern is not empty, for otherwise none is kept; for
-    // bytes that were read; or for a line.
+    // Memory may be refused before the first read (only if the first pattern is not empty, since otherwise none is
+    // stored), for bytes that were read, or for a line.
     ensures no_memory { IsErrOf result Fault.OutOfMemory
         → ((reader.new ≡ reader.old) × (0 < length (pattern_at (map string_bytes words.now) 1)))
         ⊎ ((R.ended reader.new ≡ false) × ReadBytes (R.remaining reader.old) (R.remaining reader.new))
         ⊎ HasLine (map string_bytes words.now) (R.remaining reader.old) (R.remaining reader.new) }
 
-    // Of the writer: it is left alone, but where all is written or writing fails.
+    // The writer: it is not used unless all lines are written or a write fails.
     ensures unwritten { IfErr result (λ fault. fault ≢ Fault.WriteFailed → writer.new ≡ writer.old) }
     ensures write_failed { IsErrOf result Fault.WriteFailed ↔ (W.failed writer.new ≡ true) }
     ensures front { IsErrOf result Fault.WriteFailed → WroteFront (map string_bytes words.now)

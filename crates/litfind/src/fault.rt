@@ -1,4 +1,4 @@
-//! Why a run gave no answer.
+//! The errors of a run.
 ghost use Rattle.std.specs.Prelude.{◌≡◌};
 ghost use Rattle.litfind.specs.declared.fault.Fault.TheVariants.{OutOfMemory};
 
@@ -6,32 +6,32 @@ use std::alloc::AllocError;
 use std::error::Error;
 use std::fmt;
 
-/// Why a run gave no answer.
+/// The reason why a run failed.
 #[derive(Clone, Copy, Debug, PartialEq, Eq)]
 pub enum Fault {
-    /// The words do not say what to search for: the mode is missing or unknown, or there is no pattern. Nothing was
+    /// The arguments do not say what to search for: the mode is missing or unknown, or there is no pattern. Nothing was
     /// read.
     Usage,
-    /// No searcher can be built for the patterns, and nothing was read. In each mode that is so if a pattern is empty;
-    /// in `first` and `longest` also if there are more than 128; in the other modes also if no prefilter suits them.
-    /// With ASCII case kept one suits every list of up to 128 patterns. With it ignored one suits only if at most three
-    /// bytes begin all patterns, or at most three rare ones stand in them all, where a letter counts as two: most lists
-    /// of several words have none.
+    /// No searcher can be built for the patterns, and nothing was read. In each mode, an empty pattern is a cause; in
+    /// `first` and `longest`, more than 128 patterns; in the other modes, that no prefilter suits them. If case
+    /// matters, a prefilter suits every list of up to 128 patterns. If it is ignored, a prefilter suits only if at most
+    /// three bytes begin all patterns, or if at most three rare bytes occur in them all, where a letter counts as two.
+    /// Most lists of several words have none.
     NoSearcher,
     /// A request for memory was refused: for the patterns, for the whole input, or for the lines of its matches.
     /// Nothing was written.
     OutOfMemory,
-    /// Standard input could not be read: a folder, a closed stream, or an error of the device. Nothing was written.
+    /// Standard input could not be read: it is a folder or closed, or the device failed. Nothing was written.
     ReadFailed,
-    /// A write or the flush failed, or a write took no byte: a full device, or a closed pipe or stream. A beginning of
-    /// the lines may have been written.
+    /// A write or the flush failed, or a write wrote no byte: the device is full, or the pipe or stream is closed. A
+    /// prefix of the output may have been written.
     WriteFailed,
 }
 
 impl Fault {
     ghost use Rattle.litfind.specs.FaultText.{fault_line};
 
-    /// The line that the fault prints.
+    /// The message of the fault, with a line feed.
     pub fn line(&self) -> &'static str
         ensures { result.now ≡ fault_line self.now }
     {
@@ -45,7 +45,7 @@ impl Fault {
     }
 }
 
-/// The line that the fault prints, without the line feed.
+/// The message of the fault, without a line feed.
 impl fmt::Display for Fault {
     ghost use Rattle.std.specs.Prelude.{Some};
     ghost use Rattle.litfind.specs.FaultText.{fault_text};

@@ -1,4 +1,4 @@
-//! What the program ends with.
+//! The end of the program: its exit status, and the message of a fault.
 ghost use Rattle.std.specs.Prelude.{◌≡◌, true, false, IfOk, IfErr};
 ghost use Rattle.std.specs.Process.{exit_status};
 ghost use Rattle.std.specs.Io.KnownBytes.{Appends};
@@ -11,9 +11,8 @@ use crate::engine::write_whole;
 use crate::fault::Fault;
 use std::process::ExitCode;
 
-/// The status that the answer of a run stands for: 0 where a line was written, 1 where none was, and
-/// 2 for a fault. The line of the fault is written first, whole where no write fails; without a fault
-/// nothing is written.
+/// The exit status for the result of a run: 0 if a line was written, 1 if none was, and 2 for a fault. The message of a
+/// fault is written first, as a whole unless a write fails. Without a fault nothing is written.
 pub fn finish<W: Sink>(log: &mut W, answer: Result<bool, Fault>) -> ExitCode
     requires { W.failed log.old ≡ false }
     ensures status { exit_status result ≡ status_of answer }

@@ -2,8 +2,8 @@
 use literal_base::Match;
 use std::fmt;
 
-/// A match, to be printed as its line: `ID START END` and a line feed, the identifier of its pattern
-/// and its two offsets in bytes, in decimal.
+/// A match, to be printed as a line: `ID START END` and a line feed, with the pattern's identifier and the start and
+/// end offset in bytes, in decimal.
 #[derive(Clone, Copy, Debug, PartialEq, Eq)]
 pub struct Line(pub Match);
 

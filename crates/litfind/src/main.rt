@@ -15,7 +15,7 @@ use std::env;
 use std::io::ErrorKind;
 use std::process::ExitCode;
 
-/// What `--version`, as the only word, prints.
+/// The output of `--version`, if it is the only argument.
 const VERSION: &str = "litfind 0.1.0\n";
 
 fn main(rt: HostRuntime) -> ExitCode {
@@ -25,7 +25,7 @@ fn main(rt: HostRuntime) -> ExitCode {
         Err(error) if error.kind() == ErrorKind::OutOfMemory => {
             return finish(&mut log, Err(Fault::OutOfMemory));
         }
-        // A word that is no text.
+        // An argument is not UTF-8.
         Err(_) => return finish(&mut log, Err(Fault::Usage)),
     };
     let Ok(words) = args.skip(1).collect::<Vec<String>>(rt.alloc()) else {

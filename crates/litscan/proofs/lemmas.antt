@@ -9,3 +9,4 @@ pub mod Printing
 pub mod Reading
 pub mod Refused
 pub mod Request
+pub mod Zero

@@ -1,4 +1,4 @@
--- The lines around those that count, and how all these are printed in groups.
+-- The lines around selected lines, and how both are printed in groups.
 use Rattle.std.specs.Prelude.{◌≡◌, ℕ, ◌+◌, ◌-◌, ◌++◌, ◌&&◌, ◌||◌, Bool, true, false, List, [], ◌∷◌, codes, length, map}
 use Rattle.std.specs.Prelude.{if◌then◌else◌, not, slice_index_or, unwrap_or}
 use Rattle.std.specs.List.{list_any, range_with_len, slice_range}
@@ -9,38 +9,38 @@ use Rattle.litscan.specs.Options.{is_enough, is_silent, limit_of}
 use Rattle.litscan.specs.Printed.{PrintsFound, in_color, printed_part}
 use Rattle.litscan.specs.declared.options.Options.{Options}
 
--- whether lines around those that count are asked for, and printed
+-- whether lines around selected lines are requested, and lines are printed
 abbrev pub has_context : Options → Bool
 has_context options =
     not (is_silent options) && (is_some options.before || is_some options.after || is_some options.around)
 
--- how many lines are printed before a line that counts
+-- how many lines are printed before a selected line
 abbrev pub lines_before : Options → ℕ
 lines_before options = unwrap_or options.before (unwrap_or options.around 0)
 
--- how many lines are printed after a line that counts, if one may count
+-- how many lines are printed after a selected line; 0 if none may be selected
 abbrev pub lines_after : Options → ℕ
 lines_after options =
     if is_enough (limit_of options) 0 then 0 else unwrap_or options.after (unwrap_or options.around 0)
 
--- how many lines are read at most behind the line with which enough count
+-- how many lines are read at most after the line with which enough are selected
 abbrev pub lines_behind : Options → ℕ
 lines_behind options = if has_context options then lines_after options else 0
 
--- how a line is printed: as one that counts, as one near that, or not
+-- how a line is printed: as a selected one, as one near such a line, or not at all
 pub data Mark : Type 0 where
   counted : Mark
   near : Mark
   left_out : Mark
 
--- the mark of a line that counts or does not, and is near one that counts or is not
+-- the mark of a line, by whether it is selected, and whether it is near a selected line
 abbrev pub mark_by : Bool → Bool → Mark
 mark_by true is_near = counted
 mark_by false true = near
 mark_by false false = left_out
 
--- the mark of the line at a place, by whether each line counts: it is near one that counts if that stands at most
--- `after` lines before it, or `before` lines behind it
+-- the mark of the line at an index, by which lines are selected: it is near a selected line if one is among the `after`
+-- lines before it or the `before` lines after it
 abbrev pub mark_at : ℕ → ℕ → List Bool → ℕ → Mark
 mark_at before after counting at =
     mark_by (slice_index_or counting at false)
@@ -55,18 +55,18 @@ abbrev pub is_printed : Mark → Bool
 is_printed left_out = false
 is_printed _ = true
 
--- the options by which a line near one that counts is printed: with a dash in place of each colon
+-- the options for a context line: a dash instead of each colon
 abbrev pub as_context : Options → Options
 as_context options = record options { dashed = true }
 
--- what is printed of a line near one that counts. Only where the lines without a word count, it has matches to print
+-- the output for a line near a selected one. It has matches to print only if the lines without a word are selected
 abbrev pub PrintsNear : Bool → SearchValue → Options → List ℕ → ℕ → ℕ → List ℕ → List ℕ → Type 0
 PrintsNear true search options name number offset line out =
     PrintsFound options.only search (as_context options) name number offset line out
 PrintsNear false search options name number offset line out =
-    out ≡ (if options.only then [] else printed_part (as_context options) name number offset line)
+    out ≡ (if options.only then [] else printed_part (as_context options) name number offset line line)
 
--- what is printed of a line with a mark
+-- the output for a line with a mark
 abbrev pub PrintsMarked : Mark → SearchValue → Options → List ℕ → ℕ → ℕ → List ℕ → List ℕ → Type 0
 PrintsMarked counted search options name number offset line out =
     PrintsFound options.only search options name number offset line out
@@ -74,19 +74,19 @@ PrintsMarked near search options name number offset line out =
     PrintsNear options.others search options name number offset line out
 PrintsMarked left_out search options name number offset line out = out ≡ []
 
--- a separator of groups as a line, in cyan, if separators are asked for
+-- a group separator on a line of its own, in cyan; nothing if separators are off
 abbrev pub printed_separator : Options → List ℕ → List ℕ
 printed_separator options separator =
     if options.separated then with_feed (in_color options (codes "36") separator) else []
 
--- what stands in front of a line with this mark: a separator if it is printed, the line before it was not, or is in
+-- the output before a line with this mark: a separator if the line is printed, the line before it was not, or is in
 -- another file, and any line was printed before
 abbrev pub printed_between : Options → List ℕ → Bool → Bool → Mark → List ℕ
 printed_between options separator any apart left_out = []
 printed_between options separator any apart _ = if any && apart then printed_separator options separator else []
 
--- what is printed of lines one after another with these marks, of which the first has this number and begins at this
--- offset, by whether any line was printed before, and whether the line before the first was not
+-- the output for consecutive lines with these marks. The first has this number and begins at this offset. `any` says
+-- whether any line was printed before, and `apart` whether the line before the first was not
 abbrev pub PrintsGroups : SearchValue → Options → List ℕ → List ℕ → Bool → Bool → ℕ → ℕ → List (List ℕ)
     → List Mark → List ℕ → Type 0
 PrintsGroups search options separator name any apart number offset [] marks out = out ≡ []

@@ -1,4 +1,4 @@
--- What is printed of files, and said of those that cannot be read.
+-- The output for files, and the messages for those that cannot be read.
 use Rattle.std.specs.Prelude.{◌≡◌, ◌≢◌, ◌⊎◌, ℕ, ◌==◌, ◌&&◌, ◌||◌, ◌++◌, Bool, List, [], ◌∷◌, Option, Some, None, codes}
 use Rattle.std.specs.Prelude.{true, ⊤, false, if◌then◌else◌, length, map, nat_lt, not, slice_index}
 use Rattle.std.specs.List.{list_any}
@@ -6,6 +6,7 @@ use Rattle.std.specs.Option.{IsSome, is_some}
 use Rattle.std.specs.declared.io.ErrorKind.{ErrorKind}
 use Rattle.std.specs.declared.io.ErrorKind.TheVariants as kind
 use Rattle.literal_search.specs.SearchValue.{SearchValue}
+use Rattle.litscan.specs.Options.{AreForFile}
 use Rattle.litscan.specs.Scans.{Scans}
 use Rattle.litscan.specs.declared.files.Found.{Found}
 use Rattle.litscan.specs.declared.input.FileId.{FileId}
@@ -16,50 +17,52 @@ use Rattle.litscan.specs.declared.scan.Scanned.{Scanned}
 abbrev pub is_input : List ℕ → Bool
 is_input name = (length name == 1) && (slice_index name 0 == 45)
 
--- the name of a file as it is printed
-abbrev pub input_name : List ℕ → List ℕ
-input_name name = if is_input name then codes "(standard input)" else name
+-- the name of a file as it is printed: for standard input, this label
+abbrev pub input_name : List ℕ → List ℕ → List ℕ
+input_name label name = if is_input name then label else name
 
--- what is printed of a file of this name, of which this was read if it was searched, and what its scan found; standard
--- input is open, and searched unless standard output is a file that is not to be read
-abbrev pub PrintsFile : SearchValue → Options → List ℕ → Bool → Option FileId → List ℕ → Option (List ℕ) → Scanned
-    → List ℕ → Type 0
-PrintsFile search options separator any output name None scanned out =
+-- the output for a file of this name, with the text read from it, if it was searched, and the result of its scan. The
+-- output uses this file's own options (the width of numbers).
+-- Standard input needs no opening: it is searched unless there is an output file that must not be read
+abbrev pub PrintsFile : SearchValue → Options → List ℕ → List ℕ → Bool → Option FileId → List ℕ → Option (List ℕ)
+    → Scanned → List ℕ → Type 0
+PrintsFile search options separator label any output name None scanned out =
     ((is_input name ≡ false) ⊎ IsSome output) × (out ≡ []) × (scanned.count ≡ 0) × IsSome scanned.failure
-PrintsFile search options separator any output name (Some text) scanned out =
-    Scans search options separator any (input_name name) text scanned out
+PrintsFile search options separator label any output name (Some text) scanned out =
+    (own : Options) × AreForFile options own × Scans search own separator any (input_name label name) text scanned out
 
--- a file that is asked for: its name, what was read of it if it was searched, what was found, and what was printed
+-- a requested file: its name, the text read from it if it was searched, the result of its scan, and the output
 pub record Searched : Type 0 where
   pub name : List ℕ
   pub text : Option (List ℕ)
   pub scanned : Scanned
   pub out : List ℕ
 
--- what is printed of files in turn, where a line of an earlier one counts or not
-abbrev pub PrintsFiles : SearchValue → Options → List ℕ → Option FileId → Bool → List Searched → Type 0
-PrintsFiles search options separator output any [] = ⊤
-PrintsFiles search options separator output any (one ∷ more) =
-    PrintsFile search options separator any output one.name one.text one.scanned one.out
-    × PrintsFiles search options separator output (any || nat_lt 0 one.scanned.count) more
+-- the output for files in turn, by whether a line of an earlier file is selected
+abbrev pub PrintsFiles : SearchValue → Options → List ℕ → List ℕ → Option FileId → Bool → List Searched → Type 0
+PrintsFiles search options separator label output any [] = ⊤
+PrintsFiles search options separator label output any (one ∷ more) =
+    PrintsFile search options separator label any output one.name one.text one.scanned one.out
+    × PrintsFiles search options separator label output (any || nat_lt 0 one.scanned.count) more
 
--- these files of some names were searched in turn, with this result: all, unless one was enough
-pub record AreSearched (search : SearchValue) (options : Options) (separator : List ℕ) (output : Option FileId)
+-- these files, the first ones of these names, were searched in turn, with this result. Names are left only if one file
+-- was enough
+pub record AreSearched (search : SearchValue) (options : Options) (separator label : List ℕ) (output : Option FileId)
     (names : List (List ℕ)) (found : Found) (all : List Searched) : Type 0 where
   pub others : List (List ℕ)
   pub names_are : names ≡ map (λ one. one.name) all ++ others
   pub enough : others ≢ [] → (options.quiet && found.any) ≡ true
-  pub each : PrintsFiles search options separator output false all
+  pub each : PrintsFiles search options separator label output false all
   pub any : found.any ≡ list_any (λ one. nat_lt 0 one.scanned.count) all
   pub failed : found.failed ≡ list_any (λ one. is_some one.scanned.failure) all
 
--- the status of the program: 0 if a line counts, 1 if none does, and 2 if a file could not be read, but for a line that
--- counts where nothing is printed
+-- the exit status: 0 if a line is selected, 1 if none is, and 2 if a file could not be read. With `quiet`, a selected
+-- line gives 0 even then
 abbrev pub status_for : Bool → Found → ℕ
 status_for quiet found =
     if found.any && (quiet || not found.failed) then 0 else if found.failed then 2 else 1
 
--- what is told of an error of this kind
+-- the message for an error of this kind
 abbrev pub cause_text : ErrorKind → List ℕ
 cause_text kind.NotFound = codes "No such file or directory"
 cause_text kind.PermissionDenied = codes "Permission denied"

@@ -5,8 +5,10 @@ pub mod Fault
 pub mod Files
 pub mod Inside
 pub mod Lines
+pub mod Names
 pub mod Options
 pub mod Printed
 pub mod Request
 pub mod Scans
+pub mod Walk
 pub mod Words

@@ -1,14 +1,19 @@
--- What letters, long names and numbers of a command line ask for.
-use Rattle.std.specs.Prelude.{ℕ, ◌+◌, ◌-◌, ◌*◌, ◌^◌, ◌==◌, ◌&&◌, ◌||◌, Bool, true, false, List, [], ◌∷◌, Option, Some}
-use Rattle.std.specs.Prelude.{None, codes, if◌then◌else◌, min, nat_lt, option_and_then, unwrap_or}
+-- The options that letters, long names and numbers set.
+use Rattle.std.specs.Prelude.{◌≡◌, ℕ, ◌+◌, ◌-◌, ◌*◌, ◌^◌, ◌==◌, ◌&&◌, ◌||◌, Bool, true, false, List, [], ◌∷◌, Option}
+use Rattle.std.specs.Prelude.{Some}
+use Rattle.std.specs.Prelude.{None, codes, if◌then◌else◌, min, nat_lt, not, option_and_then, unwrap_or}
 use Rattle.std.specs.Char.{is_ascii_digit}
 use Rattle.std.specs.Str.{bytes_eq}
 use Rattle.std.specs.Option.{is_some, option_map}
 use Rattle.litscan.specs.declared.options.Color.{Color}
 use Rattle.litscan.specs.declared.options.Color.TheVariants.{Always, Auto, Never}
+use Rattle.litscan.specs.declared.options.Folders.{Folders}
+use Rattle.litscan.specs.declared.options.Folders.TheVariants as folders
 use Rattle.litscan.specs.declared.options.Options.{Options}
+use Rattle.litscan.specs.declared.options.Switch.{Switch}
+use Rattle.litscan.specs.declared.options.Switch.TheVariants.{LineBuffered, MindCase, NoSeparator}
 
--- no option is given
+-- the options if none is given
 abbrev pub no_options : Options
 no_options = record {
   ignore_case = false;
@@ -20,7 +25,14 @@ no_options = record {
   alone = false;
   whole = false;
   named = None;
+  folders = folders.Read;
+  follows = false;
+  devices = None;
+  text_only = false;
+  line_end = 10;
   zero = false;
+  tab = false;
+  width = 0;
   listed = None;
   color = Never;
   line_buffered = false;
@@ -37,15 +49,14 @@ no_options = record {
   version = false;
 }
 
--- the options with a digit of the number of lines around those that count: it goes on with the number of the digits
--- right before it. A number of 2^64 or more is taken as 2^64 - 1
+-- the options with a digit of `-NUM`, appended to the digits right before it. A number of 2^64 or more becomes 2^64 - 1
 abbrev pub with_digit_of_lines : Options → ℕ → Options
 with_digit_of_lines options digit =
     let number = if options.in_number then unwrap_or options.around 0 else 0 in
     record options { around = Some (min (number * 10 + (digit - 48)) (2 ^ 64 - 1)); in_number = true }
 
--- the options with what a letter asks for, and None if it is no option without argument. The letters are in turn: b, c,
--- h, H, i and y, l, L, n, o, q, s, v, V, w, x, Z, ?, and a, F, u and U, which change nothing
+-- the options after an option letter, and None if it is not an option without argument. The letters are in turn: b, c,
+-- h, H, i and y, l, L, I, n, o, q, r, R, s, T, v, V, w, x, z, Z, ?, a, and F, u and U, which change nothing
 abbrev pub with_plain_letter : Options → ℕ → Option Options
 with_plain_letter options letter =
     if letter == 98 then Some (record options { offsets = true })
@@ -55,71 +66,93 @@ with_plain_letter options letter =
     else if letter == 105 || letter == 121 then Some (record options { ignore_case = true })
     else if letter == 108 then Some (record options { listed = Some true })
     else if letter == 76 then Some (record options { listed = Some false })
+    else if letter == 73 then Some (record options { text_only = true })
     else if letter == 110 then Some (record options { numbers = true })
     else if letter == 111 then Some (record options { only = true })
     else if letter == 113 then Some (record options { quiet = true })
+    else if letter == 114 then Some (record options { folders = folders.Walk })
+    else if letter == 82 then Some (record options { folders = folders.Walk; follows = true })
     else if letter == 115 then Some (record options { untold = true })
+    else if letter == 84 then Some (record options { tab = true })
     else if letter == 118 then Some (record options { others = true })
     else if letter == 86 then Some (record options { version = true })
     else if letter == 119 then Some (record options { alone = true })
     else if letter == 120 then Some (record options { whole = true })
+    else if letter == 122 then Some (record options { line_end = 0 })
     else if letter == 90 then Some (record options { zero = true })
     else if letter == 63 then Some (record options { help = true })
-    else if letter == 97 || letter == 70 || letter == 117 || letter == 85 then Some options
+    else if letter == 97 then Some (record options { text_only = false })
+    else if letter == 70 || letter == 117 || letter == 85 then Some options
     else None
 
--- the options behind a letter that is no digit
+-- the options after a letter: the next digit begins a new number
 abbrev pub behind_number : Options → Options
 behind_number options = record options { in_number = false }
 
--- the options with what a letter or a digit asks for
+-- the options after a letter or digit
 abbrev pub with_letter : Options → ℕ → Option Options
 with_letter options letter =
     if is_ascii_digit letter then Some (with_digit_of_lines options letter)
     else option_map behind_number (with_plain_letter options letter)
 
--- the options with what a long name asks for, and None if it is no option with neither letter nor argument
-abbrev pub with_switch : Options → List ℕ → Option Options
-with_switch options name =
-    if bytes_eq name (codes "--line-buffered") then Some (record options { line_buffered = true })
-    else if bytes_eq name (codes "--no-group-separator") then Some (record options { separated = false })
-    else if bytes_eq name (codes "--no-ignore-case") then Some (record options { ignore_case = false })
+-- the options with an option that has neither a letter nor an argument
+abbrev pub with_switch : Switch → Options → Options
+with_switch LineBuffered options = record options { line_buffered = true }
+with_switch MindCase options = record options { ignore_case = false }
+with_switch NoSeparator options = record options { separated = false }
+
+-- the options with the one of this letter, D or d, set to an action, and None if it has no such action
+abbrev pub with_action : ℕ → Options → List ℕ → Option Options
+with_action letter options action =
+    if letter == 68 && bytes_eq action (codes "read") then Some (record options { devices = Some true })
+    else if letter == 68 && bytes_eq action (codes "skip") then Some (record options { devices = Some false })
+    else if letter == 100 && bytes_eq action (codes "read") then Some (record options { folders = folders.Read })
+    else if letter == 100 && bytes_eq action (codes "skip") then Some (record options { folders = folders.Skip })
+    else if letter == 100 && bytes_eq action (codes "recurse") then Some (record options { folders = folders.Walk })
     else None
 
--- whether this is the long name of the option for separators of groups
-abbrev pub is_separator : List ℕ → Bool
-is_separator name = bytes_eq name (codes "--group-separator")
+-- the options for the argument of `--binary-files`: `text` means the same as `-a`, and `without-match` as `-I`
+abbrev pub with_binary_files : Options → List ℕ → Option Options
+with_binary_files options kind =
+    if bytes_eq kind (codes "text") then with_letter options 97
+    else if bytes_eq kind (codes "without-match") then with_letter options 73
+    else None
 
--- when colours are printed, where it is known whether standard output is a terminal
+-- whether directories are searched
+abbrev pub is_walking : Folders → Bool
+is_walking folders.Walk = true
+is_walking _ = false
+
+-- when output is coloured, given whether standard output is a terminal
 abbrev pub color_for : Bool → Color → Color
 color_for is_terminal Auto = if is_terminal then Always else Never
 color_for is_terminal color = color
 
--- the options, where it is known whether standard output is a terminal, on which each line is written at once
+-- the options, given whether standard output is a terminal. On a terminal each line is written at once
 abbrev pub on_output : Bool → Options → Options
 on_output is_terminal options =
     record options { color = color_for is_terminal options.color; line_buffered = options.line_buffered || is_terminal }
 
--- whether colours are always printed
+-- whether output is always coloured
 abbrev pub is_always : Color → Bool
 is_always Always = true
 is_always _ = false
 
--- whether all that is printed is printed in colours
+-- whether output is coloured
 abbrev pub is_colored : Options → Bool
 is_colored options = is_always options.color
 
--- whether no line is printed: only their number, the names of files, or nothing is asked for
+-- whether no line is printed: only the number of lines, file names, or nothing is requested
 abbrev pub is_silent : Options → Bool
 is_silent options = options.count || options.quiet || is_some options.listed
 
--- how many lines of a file have to count until no more is read, if any number is enough: as many as are asked for, and
--- one at most where it does not matter how many there are
+-- the number of lines of a file that have to be selected before reading stops, if there is a limit: the argument of
+-- `-m`, and at most 1 if only the existence of such a line matters
 abbrev pub limit_of : Options → Option ℕ
 limit_of options =
     if options.quiet || is_some options.listed then Some (min (unwrap_or options.most 1) 1) else options.most
 
--- whether so many lines are enough
+-- whether this many lines reach the limit
 abbrev pub is_enough : Option ℕ → ℕ → Bool
 is_enough None count = false
 is_enough (Some most) count = count == most
@@ -128,7 +161,7 @@ is_enough (Some most) count = count == most
 abbrev pub takes_number : ℕ → Bool
 takes_number letter = letter == 65 || letter == 66 || letter == 67 || letter == 109
 
--- the options with the number that the option of this letter takes
+-- the options with the one of this letter, A, B, C or m, set to its number
 abbrev pub with_number : ℕ → Options → ℕ → Options
 with_number letter options number =
     if letter == 65 then record options { after = Some number }
@@ -136,48 +169,15 @@ with_number letter options number =
     else if letter == 67 then record options { around = Some number }
     else record options { most = Some number }
 
--- whether an option of this letter takes an argument: e and f do, and those that take a number
+-- whether an option of this letter takes the name of an action: d and D do
+abbrev pub takes_action : ℕ → Bool
+takes_action letter = letter == 100 || letter == 68
+
+-- whether an option of this letter takes an argument: e and f do, and those that take a number or an action
 abbrev pub takes_argument : ℕ → Bool
-takes_argument letter = letter == 101 || letter == 102 || takes_number letter
+takes_argument letter = letter == 101 || letter == 102 || takes_number letter || takes_action letter
 
--- the letter of the option with this long name
-abbrev pub letter_named : List ℕ → Option ℕ
-letter_named name =
-    if bytes_eq name (codes "--after-context") then Some 65
-    else if bytes_eq name (codes "--before-context") then Some 66
-    else if bytes_eq name (codes "--binary") then Some 85
-    else if bytes_eq name (codes "--byte-offset") then Some 98
-    else if bytes_eq name (codes "--context") then Some 67
-    else if bytes_eq name (codes "--count") then Some 99
-    else if bytes_eq name (codes "--file") then Some 102
-    else if bytes_eq name (codes "--files-with-matches") then Some 108
-    else if bytes_eq name (codes "--files-without-match") then Some 76
-    else if bytes_eq name (codes "--fixed-strings") then Some 70
-    else if bytes_eq name (codes "--help") then Some 63
-    else if bytes_eq name (codes "--ignore-case") then Some 105
-    else if bytes_eq name (codes "--invert-match") then Some 118
-    else if bytes_eq name (codes "--line-number") then Some 110
-    else if bytes_eq name (codes "--line-regexp") then Some 120
-    else if bytes_eq name (codes "--max-count") then Some 109
-    else if bytes_eq name (codes "--no-filename") then Some 104
-    else if bytes_eq name (codes "--no-messages") then Some 115
-    else if bytes_eq name (codes "--null") then Some 90
-    else if bytes_eq name (codes "--only-matching") then Some 111
-    else if bytes_eq name (codes "--quiet") then Some 113
-    else if bytes_eq name (codes "--regexp") then Some 101
-    else if bytes_eq name (codes "--silent") then Some 113
-    else if bytes_eq name (codes "--text") then Some 97
-    else if bytes_eq name (codes "--unix-byte-offsets") then Some 117
-    else if bytes_eq name (codes "--version") then Some 86
-    else if bytes_eq name (codes "--with-filename") then Some 72
-    else if bytes_eq name (codes "--word-regexp") then Some 119
-    else None
-
--- whether this is the long name of the option for colours
-abbrev pub is_color : List ℕ → Bool
-is_color name = bytes_eq name (codes "--color") || bytes_eq name (codes "--colour")
-
--- when colours are printed, by the argument of that option, if it is one
+-- the value of the colour option for this argument, if it is valid
 abbrev pub color_named : List ℕ → Option Color
 color_named name =
     if bytes_eq name (codes "always") || bytes_eq name (codes "yes") || bytes_eq name (codes "force") then Some Always
@@ -185,18 +185,27 @@ color_named name =
     else if bytes_eq name (codes "auto") || bytes_eq name (codes "tty") || bytes_eq name (codes "if-tty") then Some Auto
     else None
 
--- the number with a digit more behind it, if it is one and the number stays below 2^64
+-- the number with one more digit, and None if it is not a digit, or the number reaches 2^64
 abbrev pub with_digit : ℕ → ℕ → Option ℕ
 with_digit number digit =
     let next = number * 10 + (digit - 48) in
     if is_ascii_digit digit && nat_lt next (2 ^ 64) then Some next else None
 
--- the number with these digits behind it
+-- the number with these digits appended
 abbrev pub number_from : ℕ → List ℕ → Option ℕ
 number_from number [] = Some number
 number_from number (digit ∷ more) = option_and_then (λ next. number_from next more) (with_digit number digit)
 
--- the number that these digits write, if there is one, and it is below 2^64
+-- the number that these digits write, if there is a digit, and the number is below 2^64
 abbrev pub number_of : List ℕ → Option ℕ
 number_of [] = None
 number_of (digit ∷ more) = number_from 0 (digit ∷ more)
+
+-- whether files with a zero byte are searched as if they were empty: with `-I`, unless a zero byte ends lines
+abbrev pub skips_zero : Options → Bool
+skips_zero options = options.text_only && not (options.line_end == 0)
+
+-- the options for one file: with `-T`, numbers and offsets have some least width
+pub record AreForFile (options own : Options) : Type 0 where
+  pub same : own ≡ record options { width = own.width }
+  pub none : options.tab ≡ false → own ≡ options

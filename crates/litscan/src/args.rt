@@ -1,13 +1,13 @@
-//! The words of the command line.
+//! Reads the arguments of the command line.
 ghost use Rattle.std.specs.Prelude.{◌≤◌, IfOk, IfSome, length};
 
 use crate::fault::Fault;
 use std::env::{Env, FillError};
 
-/// How many bytes a word may have that needs no more room than the first gets.
+/// The size of the first buffer for an argument, in bytes.
 const ROOM: usize = 256;
 
-/// The words of the command line behind the name of the program, byte for byte.
+/// The arguments of the command line after the program name, byte for byte.
 pub fn given_words(rt: &HostRuntime) -> Result<Vec<Vec<u8>>, Fault> {
     let mut words = Vec::new(rt.alloc());
     let mut room = Vec::new(rt.alloc());
@@ -22,8 +22,8 @@ pub fn given_words(rt: &HostRuntime) -> Result<Vec<Vec<u8>>, Fault> {
     Err(Fault::OutOfMemory)
 }
 
-/// Reads the word of this number, if there are so many, and says how many bytes it has. There is more room afterwards
-/// where it needs that. The first word is the name of the program.
+/// Reads the argument of this index into `room`, and returns its length, or None if there is no such argument. `room`
+/// grows if necessary. Index 0 is the program name.
 fn read_word(rt: &HostRuntime, number: usize, room: &mut Vec<u8>) -> Result<Option<usize>, Fault>
     ensures { IfOk result (λ read. IfSome read (λ len. len ≤ length room.new.items)) }
 {

@@ -1,14 +1,14 @@
-//! Which occurrences of words in a line are looked for.
-ghost use Rattle.std.specs.Prelude.{◌≡◌, ◌≤◌, ◌<◌, ℕ, length, true, IfSome, MatchOption};
+//! Finds the occurrences of words in a line that `-w` and `-x` allow; with neither, all are allowed.
+ghost use Rattle.std.specs.Prelude.{◌≡◌, ◌≤◌, ◌<◌, ℕ, false, length, true, IfSome, MatchOption};
 ghost use Rattle.literal_base.specs.Occurs.{IsValidSpan, between, rest_from};
 ghost use Rattle.literal_base.specs.declared.packed.MatchKind.TheVariants.{LeftmostLongest};
 ghost use Rattle.litscan.specs.Asked.{IsFirstAsked, NothingAsked, OccursAsked, is_asked, is_behind_word};
-ghost use Rattle.litscan.specs.Asked.{is_word_byte, one_asked, stands_alone};
+ghost use Rattle.litscan.specs.Asked.{is_before_word, is_word_byte, one_asked, stands_alone};
 
 use crate::options::Options;
 use literal_search::{Match, Search, Span};
 
-/// Whether a word occurs in a line as is asked for.
+/// Whether a word has an allowed occurrence in a line.
 pub fn has_asked(search: &Search, options: Options, line: &[u8]) -> bool
     requires { search.now.query.kind ≡ LeftmostLongest }
     ensures { result ≡ one_asked search.now options line.now }
@@ -19,7 +19,7 @@ pub fn has_asked(search: &Search, options: Options, line: &[u8]) -> bool
     search.is_match(line)
 }
 
-/// The first match in a line from a place on that is as is asked for, of those that begin there the longest.
+/// The first allowed match in a line at or after `from`; of those that begin at one offset, the longest.
 pub fn next_asked(search: &Search, options: Options, line: &[u8], from: usize) -> Option<Match>
     requires longest { search.now.query.kind ≡ LeftmostLongest }
     requires inside { from ≤ length line.now }
@@ -41,12 +41,12 @@ pub fn next_asked(search: &Search, options: Options, line: &[u8], from: usize) -
         if let Some(shorter) = asked_at(search, options, line, found.start(), found.end() - 1) {
             return Some(shorter);
         }
-        rest.start = found.start() + 1;
+        rest.start = first_start(line, found.start() + 1);
     }
     None
 }
 
-/// The longest match that begins at a place, ends at another at most, and is as is asked for.
+/// With `-w`: the longest allowed match that begins at `start` and ends at `end` or before.
 fn asked_at(
     search: &Search,
     options: Options,
@@ -55,29 +55,56 @@ fn asked_at(
     end: usize,
 ) -> Option<Match>
     requires longest { search.now.query.kind ≡ LeftmostLongest }
+    requires alone { (options.whole ≡ false) × (options.alone ≡ true) }
     requires valid { IsValidSpan line.now (between start end) }
     ensures first { MatchOption result
         ((i : ℕ) → ¬ OccursAsked search.now options line.now (between start end) i start)
         (λ found. (found.start ≡ start) × IsFirstAsked search.now options line.now (between start end) found) }
     ensures not_empty { IfSome result (λ found. found.start < found.end) }
 {
-    if options.alone && is_behind_word(line, start) {
+    if is_behind_word(line, start) {
         return None;
     }
-    let mut rest = Span { start, end };
-    while let Some(found) = search.find_in(line, rest) {
-        if found.start() != start {
-            return None;
-        }
+    let mut rest = Span {
+        start,
+        end: last_end(line, start, end),
+    };
+    while let Some(found) = search.match_in(line, rest) {
         if is_asked(options, line, found.span()) {
             return Some(found);
         }
-        rest.end = found.end() - 1;
+        rest.end = last_end(line, start, found.end() - 1);
     }
     None
 }
 
-/// The match that is the whole line, where it begins at this place, and the line is a word.
+/// The first offset at or after `from` without a word byte right before it, or else the end of the line.
+fn first_start(line: &[u8], from: usize) -> usize
+    requires { from ≤ length line.now }
+    ensures inside { (from ≤ result) × (result ≤ length line.now) }
+    ensures passed { (k : ℕ) → from ≤ k → k < result → is_behind_word line.now k ≡ true }
+{
+    let mut at = from;
+    while at < line.len() && is_behind_word(line, at) {
+        at += 1;
+    }
+    at
+}
+
+/// The last offset between `start` and `end` without a word byte right after it, or else `start`.
+fn last_end(line: &[u8], start: usize, end: usize) -> usize
+    requires { IsValidSpan line.now (between start end) }
+    ensures inside { (start ≤ result) × (result ≤ end) }
+    ensures passed { (k : ℕ) → result < k → k ≤ end → is_before_word line.now k ≡ true }
+{
+    let mut at = end;
+    while start < at && is_before_word(line, at) {
+        at -= 1;
+    }
+    at
+}
+
+/// With `-x`: the match that is the whole line, if `from` is 0 and the line is a word.
 fn whole_line(search: &Search, options: Options, line: &[u8], from: usize) -> Option<Match>
     requires longest { search.now.query.kind ≡ LeftmostLongest }
     requires whole { options.whole ≡ true }
@@ -96,7 +123,7 @@ fn whole_line(search: &Search, options: Options, line: &[u8], from: usize) -> Op
     Some(found)
 }
 
-/// Whether what stands in a span of a line is as is asked for.
+/// Whether an occurrence with this span is allowed.
 fn is_asked(options: Options, line: &[u8], span: Span) -> bool
     requires { IsValidSpan line.now span }
     ensures { result ≡ is_asked options line.now span.start span.end }
@@ -107,16 +134,15 @@ fn is_asked(options: Options, line: &[u8], span: Span) -> bool
     !options.alone || stands_alone(line, span)
 }
 
-/// Whether no byte of a word stands right before a span of a line, nor right behind it.
+/// Whether no word byte is right before or right after a span of a line.
 fn stands_alone(line: &[u8], span: Span) -> bool
     requires { IsValidSpan line.now span }
     ensures { result ≡ stands_alone line.now span.start span.end }
 {
-    let before_word = span.end < line.len() && is_word_byte(line[span.end]);
-    !is_behind_word(line, span.start) && !before_word
+    !is_behind_word(line, span.start) && !is_before_word(line, span.end)
 }
 
-/// Whether a byte of a word stands right before a place of a line.
+/// Whether a word byte is right before an offset of a line.
 fn is_behind_word(line: &[u8], at: usize) -> bool
     requires { at ≤ length line.now }
     ensures { result ≡ is_behind_word line.now at }
@@ -124,7 +150,15 @@ fn is_behind_word(line: &[u8], at: usize) -> bool
     at > 0 && is_word_byte(line[at - 1])
 }
 
-/// Whether a byte is one of a word.
+/// Whether a word byte is right after an offset of a line.
+fn is_before_word(line: &[u8], at: usize) -> bool
+    requires { at ≤ length line.now }
+    ensures { result ≡ is_before_word line.now at }
+{
+    at < line.len() && is_word_byte(line[at])
+}
+
+/// Whether a byte is a word byte: an ASCII letter, a digit or an underscore.
 fn is_word_byte(byte: u8) -> bool
     ensures { result ≡ is_word_byte byte }
 {

@@ -1,24 +1,25 @@
-//! What is printed in the colours of a terminal, where these are asked for.
-ghost use Rattle.std.specs.Prelude.{◌++◌, IfErr, OnOk};
+//! Prints in colour, if colours are requested.
+ghost use Rattle.std.specs.Prelude.{IfErr, OnOk};
 ghost use Rattle.std.specs.Io.KnownBytes.{Appends};
 ghost use Rattle.litscan.specs.Fault.{IsWriteFault};
-ghost use Rattle.litscan.specs.Printed.{color_off, color_on, in_color, printed_colon, printed_number};
+ghost use Rattle.litscan.specs.Printed.{color_off, color_on, in_color, padded_number, printed_colon};
+ghost use Rattle.litscan.specs.Printed.{printed_number};
 
 use crate::device::Device;
 use crate::fault::Fault;
 use crate::options::Options;
 use std::io::Write;
 
-/// The number of the colour of names: magenta.
+/// The colour code of names: magenta.
 pub const NAME: &[u8] = b"35";
 
-/// That of numbers and offsets: green.
+/// The colour code of numbers and offsets: green.
 const NUMBER: &[u8] = b"32";
 
-/// That of colons, dashes and separators: cyan.
+/// The colour code of colons, dashes and separators: cyan.
 pub const COLON: &[u8] = b"36";
 
-/// That of matches: bold red.
+/// The colour code of matches: bold red.
 pub const MATCH: &[u8] = b"01;31";
 
 /// Prints bytes in a colour.
@@ -37,7 +38,7 @@ pub fn print_colored<W: Write>(
     turn_off(options, writer)
 }
 
-/// Prints a number and a colon, or a dash.
+/// Prints a number, with spaces before it up to the width of numbers, and a colon, or a dash.
 pub fn print_number<W: Write>(
     options: Options,
     number: u64,
@@ -48,9 +49,18 @@ pub fn print_number<W: Write>(
     ensures error { IfErr result (IsWriteFault writer.new.failure) }
 {
     turn_on(options, NUMBER, writer)?;
-    write!(writer, "{number}")?;
+    print_padded(options.width, number, writer)?;
     turn_off(options, writer)?;
     print_colon(options, writer)
+}
+
+/// Prints a number, with spaces before it up to this width.
+fn print_padded<W: Write>(width: usize, number: u64, writer: &mut Device<W>) -> Result<(), Fault>
+    ensures printed { OnOk result (Appends (W.contents writer.old.inner) (W.contents writer.new.inner)
+        (padded_number width number)) }
+    ensures error { IfErr result (IsWriteFault writer.new.failure) }
+{
+    write!(writer, "{number:>width$}")
 }
 
 /// Prints a colon, or a dash.
@@ -77,7 +87,7 @@ fn turn_on<W: Write>(options: Options, color: &[u8], writer: &mut Device<W>) -> 
     writer.write_all(b"m\x1b[K")
 }
 
-/// Turns it off.
+/// Turns the colour off.
 fn turn_off<W: Write>(options: Options, writer: &mut Device<W>) -> Result<(), Fault>
     ensures printed { OnOk result (Appends (W.contents writer.old.inner) (W.contents writer.new.inner)
         (color_off options)) }

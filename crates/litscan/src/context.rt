@@ -1,5 +1,5 @@
-//! Lines that are kept until it is known whether they stand near one that counts.
-ghost use Rattle.std.specs.Prelude.{◌≡◌, ◌≤◌, ◌<◌, ◌+◌, ◌-◌, ◌^◌, ◌++◌, ◌&&◌, ◌⊎◌, ℕ, Bool, List, [], ◌∷◌, length, map};
+//! Holds lines until it is known whether a line after them is selected.
+ghost use Rattle.std.specs.Prelude.{◌≡◌, ◌<◌, ◌+◌, ◌-◌, ◌^◌, ◌++◌, ◌&&◌, ◌⊎◌, ℕ, List, [], length, map};
 ghost use Rattle.std.specs.Prelude.{IfErr, OnOk, if◌then◌else◌, false, nat_lt, true};
 ghost use Rattle.std.specs.Io.KnownBytes.{Appends};
 ghost use Rattle.literal_base.specs.declared.packed.MatchKind.TheVariants.{LeftmostLongest};
@@ -19,25 +19,25 @@ use std::alloc::Global;
 use std::collections::VecDeque;
 use std::io::Write;
 
-/// The lines that were read last and may yet be printed, and how the next line is printed.
+/// The last lines read, which may still be printed, and how the next line is printed.
 #[derive(Drop)]
 pub struct Context {
-    /// Lines that are printed only if a line soon after them counts.
+    /// Lines that are printed only if a line soon after them is selected.
     held: VecDeque<Vec<u8>>,
-    /// The number of the first line that is held, or of the next line.
+    /// The line number of the first held line, or else of the next line.
     number: u64,
-    /// The offset of that line.
+    /// The offset of that line in the text, in bytes.
     offset: u64,
-    /// How many of the next lines are printed since they come after a line that counts.
+    /// How many of the next lines are printed because they follow a selected line.
     due: u64,
     /// Whether any line was printed, of this file or an earlier one.
     any: bool,
-    /// Whether the line before these was not printed.
+    /// Whether the line before the first held line, or else before the next line, was not printed.
     apart: bool,
 }
 
 impl Context {
-    /// At the start of a text, where a line of an earlier file was printed or not.
+    /// The state at the start of a text. `any` says whether a line of an earlier file was printed.
     pub fn new(alloc: Global, any: bool) -> Context
         ensures held { result.held.items ≡ [] }
         ensures number { result.number ≡ 1 }
@@ -56,14 +56,14 @@ impl Context {
         }
     }
 
-    /// Whether the next line is printed since it comes after a line that counts.
+    /// Whether the next line is printed because it follows a selected line.
     pub fn is_due(&self) -> bool
         ensures { result ≡ nat_lt 0 self.now.due }
     {
         self.due > 0
     }
 
-    /// Takes the next line, which counts or does not, and prints what is then known to be printed.
+    /// Handles the next line, selected or not, and prints the lines now known to be printed.
     pub fn take<W: Write>(
         &mut self,
         counts: bool,
@@ -94,7 +94,7 @@ impl Context {
         self.hold(options, line)
     }
 
-    /// Prints the next line, which counts, behind a separator, where one is due, and the lines that are held.
+    /// Prints a separator, if one is due, the held lines, and then the next line, which is selected.
     fn print_counted<W: Write>(
         &mut self,
         search: &Search,
@@ -131,7 +131,7 @@ impl Context {
         Ok(())
     }
 
-    /// Prints a separator, if lines were left out since the last one that was printed.
+    /// Prints a separator, if lines were left out since the last printed one.
     fn print_separator<W: Write>(
         &mut self,
         options: Options,
@@ -152,7 +152,7 @@ impl Context {
         Ok(())
     }
 
-    /// Prints the lines that are held.
+    /// Prints the held lines.
     fn print_held<W: Write>(
         &mut self,
         search: &Search,
@@ -191,7 +191,7 @@ impl Context {
         Ok(())
     }
 
-    /// Prints the next line, which comes after one that counts.
+    /// Prints the next line, which follows a selected line.
     fn print_due<W: Write>(
         &mut self,
         search: &Search,
@@ -227,7 +227,7 @@ impl Context {
         Ok(())
     }
 
-    /// Holds the next line, which may stand before one that counts, and lets go of one if too many are held.
+    /// Holds the next line, since a line after it may be selected, and drops the first held line if there are too many.
     fn hold(&mut self, options: Options, line: Vec<u8>) -> Result<(), Fault>
         requires due { self.old.due ≡ 0 }
         requires well { IsWell options self.old }
@@ -250,7 +250,7 @@ impl Context {
         Ok(())
     }
 
-    /// Goes on from a line that has so many bytes to the next one.
+    /// Advances line number and offset past a line of this length and its end.
     fn advance(&mut self, len: usize)
         requires number { self.old.number + 1 < 2 ^ 64 }
         requires offset { self.old.offset + len + 1 < 2 ^ 64 }

@@ -1,12 +1,15 @@
-//! Readers and writers that keep in mind how they failed.
-ghost use Rattle.std.specs.Prelude.{◌≡◌, None, Ok, Err, Some, false, if◌then◌else◌, IfErr, IfOk, IfSome};
-ghost use Rattle.std.specs.Prelude.{List, MatchResult, OnOk, true, ℕ};
+//! Readers and writers that remember their last failure.
+ghost use Rattle.std.specs.Prelude.{◌≡◌, ◌==◌, ◌⊎◌, None, Ok, Err, Some, false, if◌then◌else◌, IfErr, IfOk};
+ghost use Rattle.std.specs.Prelude.{IfSome, List, MatchResult, OnOk, true, ℕ};
 ghost use Rattle.std.specs.IoError.{error_kind};
-ghost use Rattle.std.specs.Option.{OnSome};
+ghost use Rattle.std.specs.declared.io.ErrorKind.TheVariants.{Interrupted};
+ghost use Rattle.std.specs.List.{list_any};
+ghost use Rattle.std.specs.Option.{IsSome, OnSome};
 ghost use Rattle.std.specs.Io.{StopsAt};
 ghost use Rattle.std.specs.Io.KnownBytes.{Appends, Consumes, IsAtEnd, Keeps};
 ghost use Rattle.litscan.specs.Fault.{IsReadFault, IsWriteFault, write_fault};
-ghost use Rattle.litscan.specs.Lines.{HasNoFeed, with_feed};
+ghost use Rattle.litscan.specs.Lines.{HasNoEnd, with_end};
+ghost use Rattle.litscan.specs.Scans.{BeginsWithoutZero, HasZero};
 ghost use Rattle.litscan.specs.Inside.Passed.{Takes};
 ghost use Rattle.litscan.specs.declared.fault.Fault.TheVariants.{OutOfMemory};
 
@@ -18,8 +21,8 @@ use std::fmt::Display;
 use std::io::{self, BufRead, BufReader, ErrorKind, Read, Write};
 use std::marker::Model;
 
-/// A reader or a writer of std, of what kind the error of the call was that failed last, if one did, and whether the
-/// last write or flush was a flush that succeeded. Contracts tell by the first which fault comes of which device.
+/// A reader or writer of std, the kind of the last error of a call, if any, and whether the last write or flush was a
+/// successful flush. By that error, contracts say which device caused a fault.
 #[derive(Drop)]
 pub struct Device<D> {
     inner: D,
@@ -38,19 +41,14 @@ impl<D> Model for Device<D> {
 }
 
 impl<D> Device<D> {
-    /// Of this reader or writer, no call of which has failed.
+    /// Wraps this reader or writer. No call has failed yet.
     pub fn new(inner: D) -> Device<D>
         ensures { result ≡ record { inner = inner; failure = None; flushed = false } }
     {
-        Device {
-            inner,
-            failure: None,
-            flushed: false,
-            waits: false,
-        }
+        Device::reading(inner, false)
     }
 
-    /// Of this reader, a read of which may wait for input or not.
+    /// Wraps this reader. `waits` says whether a read may wait for input.
     pub fn reading(inner: D, waits: bool) -> Device<D>
         ensures { result ≡ record { inner = inner; failure = None; flushed = false } }
     {
@@ -62,14 +60,14 @@ impl<D> Device<D> {
         }
     }
 
-    /// Of what kind the error of the call was that failed last, if one did.
+    /// The kind of the last error of a call, if any call failed.
     pub fn failure(&self) -> Option<ErrorKind>
         ensures { result ≡ self.now.failure }
     {
         self.failure
     }
 
-    /// What a write answers that ended so.
+    /// Records the outcome of a write, and returns it.
     fn after_write(&mut self, written: io::Result<()>) -> Result<(), Fault>
         ensures inner { self.new.inner ≡ self.old.inner }
         ensures unflushed { self.new.flushed ≡ false }
@@ -88,19 +86,19 @@ impl<D> Device<D> {
 }
 
 impl<R: BufRead> Device<R> {
-    /// Reads the next line in place of what is in the buffer, and says whether a line feed was behind it. Where none
-    /// was, the text is over, and the last line is empty if it ended with a line feed.
-    pub fn read_line(&mut self, line: &mut Vec<u8>) -> Result<bool, Fault>
+    /// Replaces the contents of `line` by the next line, without the byte that ends it. Returns whether that byte was
+    /// there. If not, the text has ended, and the line is empty if the text ended with that byte.
+    pub fn read_line(&mut self, line_end: u8, line: &mut Vec<u8>) -> Result<bool, Fault>
         ensures bytes { IfOk result (λ fed. Consumes (R.remaining self.old.inner) (R.remaining self.new.inner)
-            (if fed then with_feed line.new.items else line.new.items)) }
-        ensures whole { OnOk result (HasNoFeed line.new.items) }
+            (if fed then with_end line_end line.new.items else line.new.items)) }
+        ensures whole { OnOk result (HasNoEnd line_end line.new.items) }
         ensures ended { IfOk result (λ fed. fed ≡ false
             → OnSome (R.remaining self.old.inner) (IsAtEnd (R.remaining self.new.inner))) }
         ensures error { IfErr result (IsReadFault self.new.failure) }
     {
         line.clear();
-        match self.inner.read_until(b'\n', line) {
-            Ok(_) => Ok(take_feed(line)),
+        match self.inner.read_until(line_end, line) {
+            Ok(_) => Ok(take_end(line_end, line)),
             Err(error) => {
                 self.failure = Some(error.kind());
                 Err(Fault::of_read(error))
@@ -108,15 +106,20 @@ impl<R: BufRead> Device<R> {
         }
     }
 
-    /// Passes over lines without a match: those before the first match in what the reader has read ahead. The line of
-    /// that match is read into the line buffer, if all of it is read ahead.
-    pub fn pass_lines(&mut self, search: &Search, line: &mut Vec<u8>) -> Result<Passed, Fault>
-        ensures takes { IfOk result (λ passed. (text : List ℕ) × Takes search.now passed line.new.items text
+    /// Skips the lines before the first match in the buffered bytes. The line of that match is read into `line`, if it
+    /// is buffered as a whole.
+    pub fn pass_lines(
+        &mut self,
+        line_end: u8,
+        search: &Search,
+        line: &mut Vec<u8>,
+    ) -> Result<Passed, Fault>
+        ensures takes { IfOk result (λ passed. (text : List ℕ) × Takes line_end search.now passed line.new.items text
             × Consumes (R.remaining self.old.inner) (R.remaining self.new.inner) text) }
         ensures error { IfErr result (IsReadFault self.new.failure) }
     {
         let taken = match self.inner.fill_buf() {
-            Ok(bytes) => take_ahead(search, bytes, line),
+            Ok(bytes) => take_ahead(line_end, search, bytes, line),
             Err(error) => return self.after_fill(error),
         };
         let Ok(passed) = taken else {
@@ -127,7 +130,32 @@ impl<R: BufRead> Device<R> {
         Ok(passed)
     }
 
-    /// The fault that ends a scan. Memory that is refused for a line counts as a read that failed.
+    /// Whether the buffered bytes contain a zero byte. Nothing is consumed. An interrupted read is tried again. False
+    /// if the read fails.
+    pub fn has_zero_ahead(&mut self) -> bool
+        ensures kept { Keeps (R.remaining self.old.inner) (R.remaining self.new.inner) }
+        ensures zero { result ≡ true → IfSome (R.remaining self.old.inner) HasZero }
+        ensures none { result ≡ false
+            → IfSome (R.remaining self.old.inner) BeginsWithoutZero ⊎ IsSome self.new.failure }
+        ensures again { self.new.failure ≡ Some Interrupted → self.old.failure ≡ Some Interrupted }
+    {
+        // A bounded loop is proved to end. No reader is interrupted this often.
+        for _ in 0..u64::MAX {
+            match self.inner.fill_buf() {
+                Ok(bytes) => return contains_zero(bytes),
+                Err(error) => {
+                    if error.kind() != ErrorKind::Interrupted {
+                        self.failure = Some(error.kind());
+                        return false;
+                    }
+                }
+            }
+        }
+        self.failure = Some(ErrorKind::TimedOut);
+        false
+    }
+
+    /// The fault that ends a scan. If memory for a line is refused, that counts as a failed read.
     pub fn stopped_by(&mut self, fault: Fault) -> Fault
         ensures inner { self.new.inner ≡ self.old.inner }
         ensures same { result ≡ fault }
@@ -139,7 +167,7 @@ impl<R: BufRead> Device<R> {
         fault
     }
 
-    /// What [`Device::pass_lines`] answers if a read fails. After an interrupted read, it passes over nothing.
+    /// The result of [`Device::pass_lines`] if a read fails. After an interrupted read, no line is skipped.
     fn after_fill(&mut self, error: io::Error) -> Result<Passed, Fault>
         ensures inner { self.new.inner ≡ self.old.inner }
         ensures none { IfOk result (λ passed. passed ≡ record { lines = 0; bytes = 0; next = None }) }
@@ -175,7 +203,7 @@ impl<W: Write> Device<W> {
         self.after_write(written)
     }
 
-    /// Sends on what was written since the last flush.
+    /// Flushes what was written since the last flush.
     pub fn flush(&mut self) -> Result<(), Fault>
         ensures kept { Keeps (W.contents self.old.inner) (W.contents self.new.inner) }
         ensures flushed { OnOk result (self.new.flushed ≡ true) }
@@ -191,33 +219,40 @@ impl<W: Write> Device<W> {
     }
 }
 
-/// A reader that reads ahead.
+/// A reader with a buffer.
 pub trait ReadsAhead {
-    /// Whether it has read a whole line ahead.
-    fn has_line(&self) -> bool;
+    /// Whether the next line can be read without waiting.
+    fn has_line(&self, line_end: u8) -> bool;
 }
 
-impl<R: Read> ReadsAhead for BufReader<R> {
-    fn has_line(&self) -> bool {
-        self.buffer().contains(&b'\n')
+impl<'a> ReadsAhead for &'a [u8] {
+    fn has_line(&self, _line_end: u8) -> bool {
+        true
     }
 }
 
-/// Flushes the writer if the next read may wait for input, so that all output is seen meanwhile.
+impl<R: Read> ReadsAhead for BufReader<R> {
+    fn has_line(&self, line_end: u8) -> bool {
+        self.buffer().contains(&line_end)
+    }
+}
+
+/// Flushes the writer if the next read may wait for input, so that all output is visible meanwhile.
 pub fn flush_before_wait<R: ReadsAhead, W: Write>(
+    line_end: u8,
     reader: &Device<R>,
     writer: &mut Device<W>,
 ) -> Result<(), Fault>
     ensures kept { Keeps (W.contents writer.old.inner) (W.contents writer.new.inner) }
     ensures error { IfErr result (IsWriteFault writer.new.failure) }
 {
-    if !reader.waits || writer.flushed || reader.inner.has_line() {
+    if !reader.waits || writer.flushed || reader.inner.has_line(line_end) {
         return Ok(());
     }
     writer.flush()
 }
 
-/// Flushes the writer where each line is to be written at once.
+/// Flushes the writer if each line is to be written at once.
 pub fn flush_line<W: Write>(options: Options, writer: &mut Device<W>) -> Result<(), Fault>
     ensures kept { Keeps (W.contents writer.old.inner) (W.contents writer.new.inner) }
     ensures error { IfErr result (IsWriteFault writer.new.failure) }
@@ -228,13 +263,20 @@ pub fn flush_line<W: Write>(options: Options, writer: &mut Device<W>) -> Result<
     writer.flush()
 }
 
-/// Takes the line feed off the end of a line, and says whether there was one.
-fn take_feed(line: &mut Vec<u8>) -> bool
-    requires { StopsAt line.old.items 10 }
-    ensures split { line.old.items ≡ (if result then with_feed line.new.items else line.new.items) }
-    ensures whole { HasNoFeed line.new.items }
+/// Whether a byte is zero.
+fn contains_zero(bytes: &[u8]) -> bool
+    ensures { result ≡ list_any (λ byte. byte == 0) bytes.now }
 {
-    if line.last() == Some(&b'\n') {
+    bytes.contains(&0)
+}
+
+/// Removes the byte that ends lines from the end of a line, and returns whether there was one.
+fn take_end(line_end: u8, line: &mut Vec<u8>) -> bool
+    requires { StopsAt line.old.items line_end }
+    ensures split { line.old.items ≡ (if result then with_end line_end line.new.items else line.new.items) }
+    ensures whole { HasNoEnd line_end line.new.items }
+{
+    if line.last() == Some(&line_end) {
         line.pop();
         return true;
     }

@@ -1,4 +1,4 @@
-//! Why not all was read and printed.
+//! The errors of a run.
 ghost use Rattle.std.specs.Prelude.{◌≡◌};
 ghost use Rattle.std.specs.IoError.{error_kind};
 ghost use Rattle.litscan.specs.Fault.{build_fault, read_fault, shown_letter, why_unknown, write_fault};
@@ -7,33 +7,35 @@ use literal_search::BuildError;
 use std::fmt;
 use std::io::{self, ErrorKind};
 
-/// Why not all was read and printed.
+/// The reason why a run did not read and print everything.
 #[derive(Clone, Copy, Debug, PartialEq, Eq)]
 pub enum Fault {
-    /// There is no word, or an option has no argument that it needs, or a wrong one.
+    /// There are no words to search for, or an option lacks its argument, or has a wrong one.
     Usage,
     /// There is no option of this letter.
     UnknownLetter(u8),
-    /// There is no option of the long name that the argument of this number has, from 0 up.
+    /// The argument of this index, from 0, has an unknown long name.
     UnknownName(usize),
-    /// The word of this number, from 0 up, is empty.
+    /// The argument of this index, from 0, begins several long names.
+    Ambiguous(usize),
+    /// The word of this index, from 0, is empty.
     EmptyWord(usize),
-    /// The words need a table that is too large.
+    /// There are more words than identifiers, or their automaton needs too many states.
     TooManyWords,
     /// A request for memory was refused.
     OutOfMemory,
     /// A file could not be read.
     ReadFailed,
-    /// A file of words could not be opened or read, which is told already.
+    /// A fault that was already reported, such as a file of words that could not be read.
     Told,
-    /// Nobody reads standard output any more.
+    /// Standard output is a pipe that nobody reads any more.
     Unread,
     /// Standard output could not be written.
     WriteFailed,
 }
 
 impl Fault {
-    /// What failed in a read.
+    /// The fault for an error of a read.
     pub fn of_read(error: io::Error) -> Fault
         ensures { result ≡ read_fault (error_kind error) }
     {
@@ -43,7 +45,7 @@ impl Fault {
         }
     }
 
-    /// What failed in a write.
+    /// The fault for an error of a write.
     pub fn of_write(error: io::Error) -> Fault
         ensures { result ≡ write_fault (error_kind error) }
     {
@@ -53,7 +55,7 @@ impl Fault {
         }
     }
 
-    /// What is wrong with words for which no search is built.
+    /// The fault for words for which no search can be built.
     pub fn of_build(error: BuildError) -> Fault
         ensures { result ≡ build_fault error }
     {
@@ -65,8 +67,8 @@ impl Fault {
     }
 }
 
-/// What is printed of it, but for `Unread` and `Told`, of which nothing is. Of `UnknownName` the program tells the name
-/// itself, and of `EmptyWord` where the word stands.
+/// The message of a fault. `Unread` and `Told` print nothing. For `UnknownName`, `Ambiguous` and `EmptyWord`, the
+/// program itself prints the option, or the file and line of the word.
 impl fmt::Display for Fault {
     ghost use Rattle.std.specs.Prelude.{Some};
     ghost use Rattle.litscan.specs.Fault.{fault_text};
@@ -88,6 +90,10 @@ impl fmt::Display for Fault {
                 f,
                 "litscan: unknown option in argument {number}; litscan --help lists the options"
             ),
+            Fault::Ambiguous(number) => write!(
+                f,
+                "litscan: ambiguous option in argument {number}; litscan --help lists the options"
+            ),
             Fault::EmptyWord(number) => write!(f, "litscan: word {number} is empty"),
             Fault::TooManyWords => write!(f, "litscan: too many words"),
             Fault::OutOfMemory => write!(f, "litscan: out of memory"),
@@ -99,7 +105,7 @@ impl fmt::Display for Fault {
     }
 }
 
-/// The letter of an option as it is told: a question mark where it is none that can be seen.
+/// The letter of an option in a message: a question mark if the letter is not printable.
 fn shown_letter(letter: u8) -> u8
     ensures { result ≡ shown_letter letter }
 {
@@ -110,7 +116,8 @@ fn shown_letter(letter: u8) -> u8
     }
 }
 
-/// Why an option of this letter is unknown, if that is to be told: in `grep` it asks for patterns of another kind.
+/// The reason why an option of this letter is unknown, or nothing. In `grep`, E, G and P select other kinds of
+/// patterns.
 fn why_unknown(letter: u8) -> &'static str
     ensures { result.now ≡ why_unknown letter }
 {

@@ -1,38 +1,39 @@
-//! The files that are searched, one after another.
-ghost use Rattle.std.specs.Prelude.{◌≡◌, ◌⊎◌, ◌||◌, ℕ, List, Option, Some, IfErr, IfOk, OnOk, map};
+//! Searches files one after another.
+ghost use Rattle.std.specs.Prelude.{◌≡◌, ◌⊎◌, ◌||◌, ℕ, List, Option, Some, IfErr, IfOk, IfSome, OnOk, map};
 ghost use Rattle.std.specs.Prelude.{nat_lt, true};
 ghost use Rattle.std.specs.Option.{is_some};
 ghost use Rattle.std.specs.Io.KnownBytes.{Appends, Keeps};
 ghost use Rattle.std.specs.List.{flat_map};
 ghost use Rattle.literal_base.specs.declared.packed.MatchKind.TheVariants.{LeftmostLongest};
 ghost use Rattle.litscan.specs.Fault.{IsWriteFault};
-ghost use Rattle.litscan.specs.Files.{AreSearched, PrintsFile, Searched, input_name, status_for};
+ghost use Rattle.litscan.specs.Files.{AreSearched, PrintsFile, Searched, status_for};
 ghost use Rattle.litscan.specs.Printed.{CannotRead, Reads, ReadsTooMany};
-ghost use Rattle.litscan.specs.Scans.{Scans, is_all};
+ghost use Rattle.litscan.specs.Options.{skips_zero};
+ghost use Rattle.litscan.specs.Scans.{HasZero, IsSearched, Scans, is_all};
 ghost use Rattle.litscan.specs.declared.fault.Fault.TheVariants.{OutOfMemory};
 
-use crate::device::{Device, ReadsAhead};
+use crate::device::{Device, ReadsAhead, flush_before_wait};
 use crate::fault::Fault;
 use crate::input::{
-    FileId, INPUT, buffered, input_may_wait, is_file_of, is_input, is_input_file, may_wait, open,
-    tell,
+    FileId, buffered, input_may_wait, is_file_of, is_input, is_input_file, open, options_for_file,
+    options_for_input, reader_of, tell,
 };
 use crate::options::Options;
 use crate::scan::{Scanned, scan};
 use literal_search::Search;
 use std::io::{BufRead, ErrorKind, Write};
 
-/// What the search of some files found.
+/// The result of searching some files.
 #[derive(Clone, Copy)]
 pub struct Found {
-    /// Whether a line of one counts.
+    /// Whether a line is selected in any of them.
     pub any: bool,
-    /// Whether one could not be opened, or not all of it be read.
+    /// Whether any of them could not be opened, or not be read to its end.
     pub failed: bool,
 }
 
 impl Found {
-    /// With what the scan of one more file found.
+    /// The result after the scan of one more file.
     fn with(self, scanned: Scanned) -> Found
         ensures { result ≡ record {
           any = self.any || nat_lt 0 scanned.count;
@@ -45,8 +46,8 @@ impl Found {
         }
     }
 
-    /// The status of the program: 0 if a line counts, 1 if none does, and 2 if a file could not be read, but for a line
-    /// that counts where nothing is printed.
+    /// The exit status: 0 if a line is selected, 1 if none is, and 2 if a file could not be read. With `quiet`, a
+    /// selected line gives 0 even then.
     pub fn status(self, quiet: bool) -> u8
         ensures { result ≡ status_for quiet self }
     {
@@ -57,42 +58,43 @@ impl Found {
     }
 }
 
-/// Searches the files of these names in turn, prints what is asked for, and flushes it.
+/// Searches these files in turn, prints what is requested, and flushes it.
 pub fn scan_files<W: Write>(
     rt: &HostRuntime,
     search: &Search,
     options: Options,
     separator: &[u8],
+    label: &[u8],
     names: &[Vec<u8>],
     output: Option<FileId>,
     writer: &mut Device<W>,
 ) -> Result<Found, Fault>
     requires { search.now.query.kind ≡ LeftmostLongest }
     ensures searched { IfOk result (λ found. (all : List Searched)
-        × AreSearched search.now options separator.now output (map (λ name. name.items) names.now) found all
+        × AreSearched search.now options separator.now label.now output (map (λ name. name.items) names.now) found all
         × Appends (W.contents writer.old.inner) (W.contents writer.new.inner) (flat_map (λ one. one.out) all)) }
     ensures flushed { OnOk result (writer.new.flushed ≡ true) }
     ensures error { IfErr result (λ fault. IsWriteFault writer.new.failure fault ⊎ (fault ≡ OutOfMemory)) }
 {
-    let found = scan_each(rt, search, options, separator, names, output, writer)?;
+    let found = scan_each(rt, search, options, separator, label, names, output, writer)?;
     writer.flush()?;
     Ok(found)
 }
 
-/// Searches the files of these names in turn. Where nothing is printed, no file is read
-/// behind the first in which a line counts.
+/// Searches these files in turn. With `quiet`, it stops after the first file in which a line is selected.
 fn scan_each<W: Write>(
     rt: &HostRuntime,
     search: &Search,
     options: Options,
     separator: &[u8],
+    label: &[u8],
     names: &[Vec<u8>],
     output: Option<FileId>,
     writer: &mut Device<W>,
 ) -> Result<Found, Fault>
     requires { search.now.query.kind ≡ LeftmostLongest }
     ensures searched { IfOk result (λ found. (all : List Searched)
-        × AreSearched search.now options separator.now output (map (λ name. name.items) names.now) found all
+        × AreSearched search.now options separator.now label.now output (map (λ name. name.items) names.now) found all
         × Appends (W.contents writer.old.inner) (W.contents writer.new.inner) (flat_map (λ one. one.out) all)) }
     ensures error { IfErr result (λ fault. IsWriteFault writer.new.failure fault ⊎ (fault ≡ OutOfMemory)) }
 {
@@ -109,6 +111,7 @@ fn scan_each<W: Write>(
             search,
             options,
             separator,
+            label,
             found.any,
             name.as_slice(),
             output,
@@ -119,12 +122,13 @@ fn scan_each<W: Write>(
     Ok(found)
 }
 
-/// Searches the file of this name, or standard input. One that cannot be opened, or is standard output, is told of.
+/// Searches this file, or standard input. A file that cannot be opened, or is standard output, is reported.
 fn scan_file<W: Write>(
     rt: &HostRuntime,
     search: &Search,
     options: Options,
     separator: &[u8],
+    label: &[u8],
     any: bool,
     name: &[u8],
     output: Option<FileId>,
@@ -132,27 +136,19 @@ fn scan_file<W: Write>(
 ) -> Result<Scanned, Fault>
     requires { search.now.query.kind ≡ LeftmostLongest }
     ensures printed { IfOk result (λ scanned. (text : Option (List ℕ)) × (out : List ℕ)
-        × PrintsFile search.now options separator.now any output name.now text scanned out
+        × PrintsFile search.now options separator.now label.now any output name.now text scanned out
         × Appends (W.contents writer.old.inner) (W.contents writer.new.inner) out) }
     ensures error { IfErr result (λ fault. IsWriteFault writer.new.failure fault ⊎ (fault ≡ OutOfMemory)) }
 {
     if is_input(name) {
         if let Some(id) = output {
             if is_input_file(rt, id) {
-                return not_read(rt, options, INPUT, ErrorKind::Deadlock, writer);
+                return not_read(rt, options, label, ErrorKind::Deadlock, writer);
             }
         }
+        let own = options_for_input(rt, options);
         let mut reader = buffered(rt.alloc(), rt.stdin(), input_may_wait(rt))?;
-        return scan_told(
-            rt,
-            search,
-            options,
-            separator,
-            any,
-            INPUT,
-            &mut reader,
-            writer,
-        );
+        return scan_input(rt, search, own, separator, any, label, &mut reader, writer);
     }
     match open(rt, name) {
         Ok(file) => {
@@ -161,25 +157,73 @@ fn scan_file<W: Write>(
                     return not_read(rt, options, name, ErrorKind::Deadlock, writer);
                 }
             }
-            let waits = may_wait(file.metadata());
-            let mut reader = buffered(rt.alloc(), file, waits)?;
-            scan_told(
-                rt,
-                search,
-                options,
-                separator,
-                any,
-                name,
-                &mut reader,
-                writer,
-            )
+            let own = options_for_file(options, &file);
+            let mut reader = reader_of(rt.alloc(), file)?;
+            scan_input(rt, search, own, separator, any, name, &mut reader, writer)
         }
         Err(ErrorKind::OutOfMemory) => Err(Fault::OutOfMemory),
         Err(kind) => not_read(rt, options, name, kind, writer),
     }
 }
 
-/// Searches a text. If it cannot be read to its end that is told of, but for `-s`.
+/// Searches a text. With `-I`, a text with a zero byte in the first bytes read is searched as if it were empty.
+fn scan_input<R: BufRead + ReadsAhead, W: Write>(
+    rt: &HostRuntime,
+    search: &Search,
+    options: Options,
+    separator: &[u8],
+    any: bool,
+    name: &[u8],
+    reader: &mut Device<R>,
+    writer: &mut Device<W>,
+) -> Result<Scanned, Fault>
+    requires { search.now.query.kind ≡ LeftmostLongest }
+    ensures printed { IfOk result (λ scanned. (text out : List ℕ)
+        × (scans : Scans search.now options separator.now any name.now text scanned out)
+        × IsSearched options scanned.failure (is_all options scanned scans.behind) (R.remaining reader.old.inner)
+        (R.remaining reader.new.inner) text
+        × Appends (W.contents writer.old.inner) (W.contents writer.new.inner) out) }
+    ensures error { IfErr result (λ fault. IsWriteFault writer.new.failure fault ⊎ (fault ≡ OutOfMemory)) }
+{
+    let is_zero = has_zero(options, reader, writer)?;
+    if is_zero {
+        let nothing: &[u8] = b"";
+        let mut nothing = Device::new(nothing);
+        return scan_told(
+            rt,
+            search,
+            options,
+            separator,
+            any,
+            name,
+            &mut nothing,
+            writer,
+        );
+    }
+    scan_told(rt, search, options, separator, any, name, reader, writer)
+}
+
+/// Whether a text is searched as if it were empty, since a zero byte is in the first bytes read. The writer is flushed
+/// first if the read may wait.
+fn has_zero<R: BufRead + ReadsAhead, W: Write>(
+    options: Options,
+    reader: &mut Device<R>,
+    writer: &mut Device<W>,
+) -> Result<bool, Fault>
+    ensures zero { IfOk result (λ zero. zero ≡ true
+        → (skips_zero options ≡ true) × IfSome (R.remaining reader.old.inner) HasZero) }
+    ensures unread { Keeps (R.remaining reader.old.inner) (R.remaining reader.new.inner) }
+    ensures kept { Keeps (W.contents writer.old.inner) (W.contents writer.new.inner) }
+    ensures error { IfErr result (IsWriteFault writer.new.failure) }
+{
+    if !options.skips_zero() {
+        return Ok(false);
+    }
+    flush_before_wait(options.line_end, reader, writer)?;
+    Ok(reader.has_zero_ahead())
+}
+
+/// Searches a text. If it cannot be read to its end, that is reported, unless `-s` is given.
 fn scan_told<R: BufRead + ReadsAhead, W: Write>(
     rt: &HostRuntime,
     search: &Search,
@@ -216,7 +260,7 @@ fn scan_told<R: BufRead + ReadsAhead, W: Write>(
     Ok(scanned)
 }
 
-/// What is found in a file that is not read. That is told, but for `-s`.
+/// The result for a file that is not read. This is reported, unless `-s` is given.
 fn not_read<W: Write>(
     rt: &HostRuntime,
     options: Options,
@@ -235,7 +279,7 @@ fn not_read<W: Write>(
     })
 }
 
-/// Tells why a file is not read, or not to its end, but for `-s`. What was printed before is written in front of that.
+/// Reports why a file is not read, or not to its end, unless `-s` is given. Earlier output is flushed first.
 fn tell_behind<W: Write>(
     rt: &HostRuntime,
     options: Options,

@@ -1,7 +1,7 @@
-//! The lines of a text that is read, as words.
-ghost use Rattle.std.specs.Prelude.{◌≡◌, ◌⊎◌, ◌++◌, [], ◌∷◌, ℕ, List, map, IfErr, OnOk};
+//! Reads the lines of a text as words.
+ghost use Rattle.std.specs.Prelude.{◌≡◌, ◌⊎◌, ◌++◌, ℕ, List, map, IfErr, OnOk};
 ghost use Rattle.litscan.specs.Fault.{IsReadFault};
-ghost use Rattle.litscan.specs.Lines.{HasNoFeed, last_line, lines_of};
+ghost use Rattle.litscan.specs.Lines.{last_line, lines_of};
 ghost use Rattle.litscan.specs.Printed.{ReadsAll};
 ghost use Rattle.litscan.specs.declared.fault.Fault.TheVariants.{OutOfMemory};
 
@@ -18,12 +18,12 @@ pub fn add_lines<R: BufRead>(
 ) -> Result<(), Fault>
     ensures read { OnOk result ((text : List ℕ)
         × ReadsAll (R.remaining reader.old.inner) (R.remaining reader.new.inner) text
-        × (map (λ word. word.items) words.new.items ≡ map (λ word. word.items) words.old.items ++ lines_of text)) }
+        × (map (λ word. word.items) words.new.items ≡ map (λ word. word.items) words.old.items ++ lines_of 10 text)) }
     ensures error { IfErr result (λ fault. IsReadFault reader.new.failure fault ⊎ (fault ≡ OutOfMemory)) }
 {
     for _ in 0..u64::MAX {
         let mut line = Vec::new(alloc);
-        if !reader.read_line(&mut line)? {
+        if !reader.read_line(b'\n', &mut line)? {
             return add_last(line, words);
         }
         words.push(line).or(Err(Fault::OutOfMemory))?;
@@ -31,7 +31,7 @@ pub fn add_lines<R: BufRead>(
     Err(Fault::OutOfMemory)
 }
 
-/// Adds what stands behind the last line feed, if it is not empty.
+/// Adds the text after the last line feed, unless it is empty.
 fn add_last(last: Vec<u8>, words: &mut Vec<Vec<u8>>) -> Result<(), Fault>
     ensures added { OnOk result (map (λ word. word.items) words.new.items
         ≡ map (λ word. word.items) words.old.items ++ last_line last.items) }

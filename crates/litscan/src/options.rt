@@ -1,80 +1,143 @@
-//! What is asked for of each file, and the letters and names that ask for it.
-ghost use Rattle.std.specs.Prelude.{◌≡◌, true};
+//! The options of a search, and the letters and long names that set them.
+ghost use Rattle.std.specs.Prelude.{◌≡◌, Some, true, unwrap_or};
 ghost use Rattle.std.specs.Char.{is_ascii_digit};
 ghost use Rattle.std.specs.Str.{bytes_eq};
 ghost use Rattle.litscan.specs.Context.{as_context, has_context, lines_after, lines_before};
-ghost use Rattle.litscan.specs.Options.{color_named, is_color, is_colored, is_enough, is_separator, is_silent};
-ghost use Rattle.litscan.specs.Options.{letter_named, limit_of, no_options, number_of, on_output, takes_argument};
-ghost use Rattle.litscan.specs.Options.{takes_number, with_digit, with_digit_of_lines, with_letter, with_number};
-ghost use Rattle.litscan.specs.Options.{with_plain_letter, with_switch};
+ghost use Rattle.litscan.specs.Options.{color_named, is_colored, is_enough, is_silent, is_walking};
+ghost use Rattle.litscan.specs.Options.{limit_of, no_options, number_of, on_output};
+ghost use Rattle.litscan.specs.Options.{takes_action, takes_argument, takes_number, with_action, with_binary_files};
+ghost use Rattle.litscan.specs.Options.{with_digit, with_digit_of_lines, with_letter, with_number, with_plain_letter};
+ghost use Rattle.litscan.specs.Options.{skips_zero, with_switch};
 
-/// When colours are printed.
+/// When output is coloured.
 #[derive(Clone, Copy)]
 pub enum Color {
     /// Never.
     Never,
-    /// Where standard output is a terminal.
+    /// If standard output is a terminal.
     Auto,
     /// Always.
     Always,
 }
 
-/// What is asked for of each file.
+/// How a directory is handled.
+#[derive(Clone, Copy)]
+pub enum Folders {
+    /// It is read as a file, which fails.
+    Read,
+    /// It is skipped.
+    Skip,
+    /// The files in it are searched.
+    Walk,
+}
+
+/// An option that selects files or directories by name.
+#[derive(Clone, Copy)]
+pub enum Rule {
+    /// `--exclude`: these files are left out.
+    Exclude,
+    /// `--exclude-dir`: these directories are left out.
+    ExcludeFolder,
+    /// `--exclude-from`: files that a line of this file fits are left out.
+    ExcludeFrom,
+    /// `--include`: these files are not left out.
+    Include,
+}
+
+/// An option with an argument and only a long name. `--color` is not one: its argument is optional.
+#[derive(Clone, Copy)]
+pub enum Setting {
+    /// `--binary-files`: how a file that is not text is handled.
+    BinaryFiles,
+    /// `--exclude`, `--exclude-dir`, `--exclude-from` or `--include`: which files are searched.
+    Rule(Rule),
+    /// `--label`: the name of standard input.
+    Label,
+    /// `--group-separator`: the separator between groups of lines.
+    Separator,
+}
+
+/// An option with only a long name, and no argument.
+#[derive(Clone, Copy)]
+pub enum Switch {
+    /// `--line-buffered`: each line is written at once.
+    LineBuffered,
+    /// `--no-ignore-case`: ASCII case is not ignored.
+    MindCase,
+    /// `--no-group-separator`: nothing is printed between groups of lines.
+    NoSeparator,
+}
+
+/// The options of a search.
 #[derive(Clone, Copy)]
 pub struct Options {
     /// `-i`: whether ASCII case is ignored.
     pub ignore_case: bool,
-    /// `-v`: whether the lines without a word count.
+    /// `-v`: whether the lines without a word are selected.
     pub others: bool,
-    /// `-c`: whether the number of the lines that count is printed in place of these.
+    /// `-c`: whether the number of selected lines is printed instead of the lines.
     pub count: bool,
-    /// `-n`: whether the number of its line is printed in front of what is printed.
+    /// `-n`: whether the line number is printed before each line or match.
     pub numbers: bool,
-    /// `-b`: whether the offset in the text is printed in front of what is printed.
+    /// `-b`: whether the offset in the text, in bytes, is printed before each line or match.
     pub offsets: bool,
-    /// `-o`: whether the matches in a line are printed in place of it.
+    /// `-o`: whether the matches in a line are printed instead of the line.
     pub only: bool,
-    /// `-w`: whether words count only where they stand alone.
+    /// `-w`: whether words match only with no word byte right before or after them.
     pub alone: bool,
-    /// `-x`: whether words count only where they are the whole line, whatever `alone` is.
+    /// `-x`: whether words match only as the whole line, regardless of `alone`.
     pub whole: bool,
-    /// `-H`, `-h`: whether the name of its file is printed in front of what is printed, if that is asked for.
+    /// `-H`, `-h`: whether the file name is printed before each line or match, if one of them is given.
     pub named: Option<bool>,
-    /// `-Z`: whether a zero byte stands behind the name of a file, in place of a colon or a line feed.
+    /// `-r`, `-R`, `-d`: how a directory is handled.
+    pub folders: Folders,
+    /// `-R`: whether symbolic links in directories are followed, and devices in directories are searched.
+    pub follows: bool,
+    /// `-D`: whether devices, pipes and sockets are searched, if it is given.
+    pub devices: Option<bool>,
+    /// `-I`: whether a file with a zero byte in its first block is searched as if it were empty.
+    pub text_only: bool,
+    /// The byte that ends a line: a line feed, or with `-z` a zero byte.
+    pub line_end: u8,
+    /// `-Z`: whether a zero byte follows a file name, instead of a colon or a line feed.
     pub zero: bool,
-    /// `-l`, `-L`: whether the names of the files in which a line counts are printed, or of the others, in place of
-    /// lines.
+    /// `-T`: whether a tab is printed before a line or match that is not empty, if anything else is.
+    pub tab: bool,
+    /// The least width of a printed number or offset.
+    pub width: usize,
+    /// `-l`, `-L`: whether to print, instead of lines, the names of the files in which a line is selected (true) or of
+    /// the others (false).
     pub listed: Option<bool>,
-    /// `--color`: when names, numbers and matches are printed in colours.
+    /// `--color`: when names, numbers and matches are printed in colour.
     pub color: Color,
-    /// `--line-buffered`: whether what is printed of a line is written at once.
+    /// `--line-buffered`: whether each line is written at once.
     pub line_buffered: bool,
     /// `-q`: whether nothing is printed.
     pub quiet: bool,
-    /// `-s`: whether nothing is said of files that cannot be read.
+    /// `-s`: whether files that cannot be read are not reported.
     pub untold: bool,
-    /// `-m`: how many lines of a file may count.
+    /// `-m`: how many lines of a file may be selected, if it is given.
     pub most: Option<u64>,
-    /// `-B`: how many lines are printed before a line that counts, if that is asked for.
+    /// `-B`: how many lines are printed before a selected line, if it is given.
     pub before: Option<u64>,
-    /// `-A`: how many lines are printed after a line that counts, if that is asked for.
+    /// `-A`: how many lines are printed after a selected line, if it is given.
     pub after: Option<u64>,
-    /// `-C`, `-NUM`: the same for both, where neither `before` nor `after` says otherwise.
+    /// `-C`, `-NUM`: the default for both `before` and `after`.
     pub around: Option<u64>,
-    /// Whether the letter that was taken last is a digit of `-NUM`.
+    /// Whether the last letter read is a digit of `-NUM`.
     pub in_number: bool,
-    /// `--no-group-separator`: whether a separator stands between groups of lines.
+    /// Whether a separator is printed between groups; `--no-group-separator` clears it, `--group-separator` sets it.
     pub separated: bool,
-    /// Whether a dash stands in place of each colon, as before a line that does not count.
+    /// Whether a dash is printed instead of each colon, as for a context line.
     pub dashed: bool,
-    /// `--help`: whether this program is explained.
+    /// `--help`: whether the help text is printed.
     pub help: bool,
-    /// `-V`: whether the version of this program is printed.
+    /// `-V`: whether the version is printed.
     pub version: bool,
 }
 
 impl Options {
-    /// With no option given.
+    /// The options if none is given.
     pub fn none() -> Options
         ensures { result ≡ no_options }
     {
@@ -88,7 +151,14 @@ impl Options {
             alone: false,
             whole: false,
             named: None,
+            folders: Folders::Read,
+            follows: false,
+            devices: None,
+            text_only: false,
+            line_end: b'\n',
             zero: false,
+            tab: false,
+            width: 0,
             listed: None,
             color: Color::Never,
             line_buffered: false,
@@ -106,7 +176,7 @@ impl Options {
         }
     }
 
-    /// With what this letter or digit asks for, if it is one of an option without argument.
+    /// Sets the option of this letter or digit. None if it is not an option without argument.
     pub fn with_letter(self, letter: u8) -> Option<Options>
         ensures { result ≡ with_letter self letter }
     {
@@ -118,7 +188,7 @@ impl Options {
         Some(options)
     }
 
-    /// With a digit of the number of lines around those that count, of 2^64 - 1 lines at most.
+    /// Adds a digit to the number of `-NUM`, which is limited to 2^64 - 1.
     fn with_digit_of_lines(self, digit: u8) -> Options
         requires { is_ascii_digit digit ≡ true }
         ensures { result ≡ with_digit_of_lines self digit }
@@ -138,7 +208,7 @@ impl Options {
         options
     }
 
-    /// With what this letter asks for, if it is one of an option without argument.
+    /// Sets the option of this letter. None if it is not an option without argument.
     fn with_plain_letter(self, letter: u8) -> Option<Options>
         ensures { result ≡ with_plain_letter self letter }
     {
@@ -151,43 +221,45 @@ impl Options {
             b'i' | b'y' => options.ignore_case = true,
             b'l' => options.listed = Some(true),
             b'L' => options.listed = Some(false),
+            b'I' => options.text_only = true,
             b'n' => options.numbers = true,
             b'o' => options.only = true,
             b'q' => options.quiet = true,
+            b'r' => options.folders = Folders::Walk,
+            b'R' => {
+                options.folders = Folders::Walk;
+                options.follows = true;
+            }
             b's' => options.untold = true,
+            b'T' => options.tab = true,
             b'v' => options.others = true,
             b'V' => options.version = true,
             b'w' => options.alone = true,
             b'x' => options.whole = true,
+            b'z' => options.line_end = 0,
             b'Z' => options.zero = true,
             b'?' => options.help = true,
-            b'a' | b'F' | b'u' | b'U' => {}
+            b'a' => options.text_only = false,
+            b'F' | b'u' | b'U' => {}
             _ => return None,
         }
         Some(options)
     }
 
-    /// With what this long name asks for, if it is one of an option with neither letter nor argument.
-    pub fn with_switch(self, name: &[u8]) -> Option<Options>
-        ensures { result ≡ with_switch self name.now }
+    /// Sets an option that has neither a letter nor an argument.
+    pub fn with_switch(self, switch: Switch) -> Options
+        ensures { result ≡ with_switch switch self }
     {
         let mut options = self;
-        if is_text(name, "--line-buffered") {
-            options.line_buffered = true;
-            return Some(options);
+        match switch {
+            Switch::LineBuffered => options.line_buffered = true,
+            Switch::MindCase => options.ignore_case = false,
+            Switch::NoSeparator => options.separated = false,
         }
-        if is_text(name, "--no-group-separator") {
-            options.separated = false;
-            return Some(options);
-        }
-        if is_text(name, "--no-ignore-case") {
-            options.ignore_case = false;
-            return Some(options);
-        }
-        None
+        options
     }
 
-    /// With the number that the option of this letter takes.
+    /// Sets the option of this letter, A, B, C or m, to its number.
     pub fn with_number(self, letter: u8, number: u64) -> Options
         ensures { result ≡ with_number letter self number }
     {
@@ -201,7 +273,64 @@ impl Options {
         options
     }
 
-    /// With colours always or never, by whether standard output is a terminal where that is to tell. On a terminal each
+    /// Sets the option of this letter, `-d` or `-D`, to an action. None if it has no such action.
+    pub fn with_action(self, letter: u8, action: &[u8]) -> Option<Options>
+        ensures { result ≡ with_action letter self action.now }
+    {
+        let mut options = self;
+        match letter {
+            b'D' if is_text(action, "read") => options.devices = Some(true),
+            b'D' if is_text(action, "skip") => options.devices = Some(false),
+            b'd' if is_text(action, "read") => options.folders = Folders::Read,
+            b'd' if is_text(action, "skip") => options.folders = Folders::Skip,
+            b'd' if is_text(action, "recurse") => options.folders = Folders::Walk,
+            _ => return None,
+        }
+        Some(options)
+    }
+
+    /// Sets the option for this argument of `--binary-files`. None if the argument is not supported.
+    pub fn with_binary_files(self, kind: &[u8]) -> Option<Options>
+        ensures { result ≡ with_binary_files self kind.now }
+    {
+        if is_text(kind, "text") {
+            return self.with_letter(b'a');
+        }
+        if is_text(kind, "without-match") {
+            return self.with_letter(b'I');
+        }
+        None
+    }
+
+    /// Sets the least width of a printed number or offset.
+    pub fn with_width(self, width: usize) -> Options
+        ensures { result ≡ record self { width = width } }
+    {
+        let mut options = self;
+        options.width = width;
+        options
+    }
+
+    /// Sets whether file names are printed, unless `-H` or `-h` did.
+    pub fn with_names(self, named: bool) -> Options
+        ensures { result ≡ record self { named = Some (unwrap_or self.named named) } }
+    {
+        let mut options = self;
+        options.named = Some(options.named.unwrap_or(named));
+        options
+    }
+
+    /// Whether directories are searched.
+    pub fn is_walking(self) -> bool
+        ensures { result ≡ is_walking self.folders }
+    {
+        match self.folders {
+            Folders::Walk => true,
+            Folders::Read | Folders::Skip => false,
+        }
+    }
+
+    /// Replaces `Color::Auto` by always if standard output is a terminal, and by never otherwise. On a terminal each
     /// line is written at once.
     pub fn on_output(self, is_terminal: bool) -> Options
         ensures { result ≡ on_output is_terminal self }
@@ -218,7 +347,7 @@ impl Options {
         options
     }
 
-    /// Whether colours are always printed.
+    /// Whether output is always coloured.
     pub fn is_colored(self) -> bool
         ensures { result ≡ is_colored self }
     {
@@ -228,15 +357,22 @@ impl Options {
         }
     }
 
-    /// Whether no line is printed: only their number, the names of files, or nothing is asked for.
+    /// Whether a file with a zero byte is searched as if it were empty, with `-I`, unless a zero byte ends lines.
+    pub fn skips_zero(self) -> bool
+        ensures { result ≡ skips_zero self }
+    {
+        self.text_only && self.line_end != 0
+    }
+
+    /// Whether no line is printed: only the number of lines, file names, or nothing is requested.
     pub fn is_silent(self) -> bool
         ensures { result ≡ is_silent self }
     {
         self.count || self.quiet || self.listed.is_some()
     }
 
-    /// How many lines of a file have to count until no more is read, if any number is enough. One is where it does not
-    /// matter how many there are.
+    /// The number of lines of a file that have to be selected before reading stops, if there is a limit. It is at most
+    /// 1 if only the existence of such a line matters.
     pub fn limit(self) -> Option<u64>
         ensures { result ≡ limit_of self }
     {
@@ -248,7 +384,7 @@ impl Options {
 }
 
 impl Options {
-    /// Whether lines around those that count are printed.
+    /// Whether lines around selected lines are printed.
     pub fn has_context(self) -> bool
         ensures { result ≡ has_context self }
     {
@@ -256,14 +392,14 @@ impl Options {
             && (self.before.is_some() || self.after.is_some() || self.around.is_some())
     }
 
-    /// How many lines are printed before a line that counts.
+    /// How many lines are printed before a selected line.
     pub fn lines_before(self) -> u64
         ensures { result ≡ lines_before self }
     {
         self.before.unwrap_or(self.around.unwrap_or(0))
     }
 
-    /// How many lines are printed after a line that counts, if one may count.
+    /// How many lines are printed after a selected line; 0 if none may be selected.
     pub fn lines_after(self) -> u64
         ensures { result ≡ lines_after self }
     {
@@ -273,7 +409,7 @@ impl Options {
         self.after.unwrap_or(self.around.unwrap_or(0))
     }
 
-    /// As a line is printed that stands around one that counts: with a dash in place of each colon.
+    /// The options for a context line: a dash instead of each colon.
     pub fn as_context(self) -> Options
         ensures { result ≡ as_context self }
     {
@@ -283,7 +419,7 @@ impl Options {
     }
 }
 
-/// Whether so many lines are enough.
+/// Whether this many lines reach the limit.
 pub fn is_enough(limit: Option<u64>, count: u64) -> bool
     ensures { result ≡ is_enough limit count }
 {
@@ -297,7 +433,14 @@ pub fn is_enough(limit: Option<u64>, count: u64) -> bool
 pub fn takes_argument(letter: u8) -> bool
     ensures { result ≡ takes_argument letter }
 {
-    letter == b'e' || letter == b'f' || takes_number(letter)
+    letter == b'e' || letter == b'f' || takes_number(letter) || takes_action(letter)
+}
+
+/// Whether an option of this letter takes the name of an action.
+pub fn takes_action(letter: u8) -> bool
+    ensures { result ≡ takes_action letter }
+{
+    letter == b'd' || letter == b'D'
 }
 
 /// Whether an option of this letter takes a number.
@@ -307,58 +450,7 @@ pub fn takes_number(letter: u8) -> bool
     letter == b'A' || letter == b'B' || letter == b'C' || letter == b'm'
 }
 
-/// The letter of the option with this long name.
-pub fn letter_named(name: &[u8]) -> Option<u8>
-    ensures { result ≡ letter_named name.now }
-{
-    match name {
-        _ if is_text(name, "--after-context") => Some(b'A'),
-        _ if is_text(name, "--before-context") => Some(b'B'),
-        _ if is_text(name, "--binary") => Some(b'U'),
-        _ if is_text(name, "--byte-offset") => Some(b'b'),
-        _ if is_text(name, "--context") => Some(b'C'),
-        _ if is_text(name, "--count") => Some(b'c'),
-        _ if is_text(name, "--file") => Some(b'f'),
-        _ if is_text(name, "--files-with-matches") => Some(b'l'),
-        _ if is_text(name, "--files-without-match") => Some(b'L'),
-        _ if is_text(name, "--fixed-strings") => Some(b'F'),
-        _ if is_text(name, "--help") => Some(b'?'),
-        _ if is_text(name, "--ignore-case") => Some(b'i'),
-        _ if is_text(name, "--invert-match") => Some(b'v'),
-        _ if is_text(name, "--line-number") => Some(b'n'),
-        _ if is_text(name, "--line-regexp") => Some(b'x'),
-        _ if is_text(name, "--max-count") => Some(b'm'),
-        _ if is_text(name, "--no-filename") => Some(b'h'),
-        _ if is_text(name, "--no-messages") => Some(b's'),
-        _ if is_text(name, "--null") => Some(b'Z'),
-        _ if is_text(name, "--only-matching") => Some(b'o'),
-        _ if is_text(name, "--quiet") => Some(b'q'),
-        _ if is_text(name, "--regexp") => Some(b'e'),
-        _ if is_text(name, "--silent") => Some(b'q'),
-        _ if is_text(name, "--text") => Some(b'a'),
-        _ if is_text(name, "--unix-byte-offsets") => Some(b'u'),
-        _ if is_text(name, "--version") => Some(b'V'),
-        _ if is_text(name, "--with-filename") => Some(b'H'),
-        _ if is_text(name, "--word-regexp") => Some(b'w'),
-        _ => None,
-    }
-}
-
-/// Whether this is the long name of the option for colours.
-pub fn is_color(name: &[u8]) -> bool
-    ensures { result ≡ is_color name.now }
-{
-    is_text(name, "--color") || is_text(name, "--colour")
-}
-
-/// Whether this is the long name of the option for separators of groups.
-pub fn is_separator(name: &[u8]) -> bool
-    ensures { result ≡ is_separator name.now }
-{
-    is_text(name, "--group-separator")
-}
-
-/// When colours are printed, by the argument of that option, if it is one.
+/// The value of the colour option for this argument, if it is valid.
 pub fn color_named(when: &[u8]) -> Option<Color>
     ensures { result ≡ color_named when.now }
 {
@@ -381,7 +473,7 @@ fn is_text(bytes: &[u8], text: &str) -> bool
     bytes == text.as_bytes()
 }
 
-/// The number that these digits write, if it is below 2^64, and there is one.
+/// The number that these digits write. None if there is no digit, a byte is not a digit, or the number reaches 2^64.
 pub fn number_of(digits: &[u8]) -> Option<u64>
     ensures { result ≡ number_of digits.now }
 {
@@ -395,7 +487,7 @@ pub fn number_of(digits: &[u8]) -> Option<u64>
     Some(number)
 }
 
-/// The number with a digit more behind it.
+/// Appends a digit to a number. None if it is not a digit, or the number reaches 2^64.
 fn with_digit(number: u64, digit: u8) -> Option<u64>
     ensures { result ≡ with_digit number digit }
 {

@@ -1,5 +1,5 @@
-//! Lines without a match, many at once: those before the first match in what a reader has read ahead.
-ghost use Rattle.std.specs.Prelude.{◌≡◌, ◌⊎◌, ◌≢◌, ◌+◌, ◌-◌, ◌<◌, ◌≤◌, ◌==◌, ◌^◌, List, None, ℕ, IfOk, MatchOption, ⊤};
+//! Skips many lines without a match at once: those before the first match in the buffered bytes.
+ghost use Rattle.std.specs.Prelude.{◌≡◌, ◌⊎◌, ◌≢◌, ◌+◌, ◌-◌, ◌<◌, ◌≤◌, ◌==◌, ◌^◌, None, ℕ, IfOk, MatchOption, ⊤};
 ghost use Rattle.std.specs.Prelude.{length, slice_index, take};
 ghost use Rattle.std.specs.List.{count_by};
 ghost use Rattle.litscan.specs.Inside.Passed.{IsAhead, LiesInLine, Takes, len_of};
@@ -7,22 +7,22 @@ ghost use Rattle.litscan.specs.Inside.Passed.{IsAhead, LiesInLine, Takes, len_of
 use literal_search::{Match, Search};
 use std::alloc::AllocError;
 
-/// Line feeds are counted in parts of this many bytes, so that the count of a part fits into a byte.
+/// The ends of lines are counted in parts of this many bytes, so that each count fits into a byte.
 const PART: usize = 255;
 
-/// Lines without a match that were passed over, and maybe the next line.
+/// Skipped lines without a match, and possibly the next line.
 #[derive(Clone, Copy)]
 pub struct Passed {
-    /// How many lines were passed over.
+    /// The number of skipped lines.
     pub lines: usize,
-    /// How many bytes they have, with their line feeds.
+    /// Their length in bytes, with their ends.
     pub bytes: usize,
-    /// The length of the next line, without its line feed, if it has a match and all of it is read ahead.
+    /// The length of the next line, without its end, if it has a match and is buffered as a whole.
     pub next: Option<usize>,
 }
 
 impl Passed {
-    /// Nothing was passed over.
+    /// No line was skipped.
     pub fn none() -> Passed
         ensures { result ≡ record { lines = 0; bytes = 0; next = None } }
     {
@@ -33,7 +33,7 @@ impl Passed {
         }
     }
 
-    /// How many bytes these lines have, with the next one and its line feed.
+    /// The length of these lines in bytes, with the next one and its end.
     pub fn len(&self) -> usize
         requires { len_of self.now < 2 ^ 64 }
         ensures { result ≡ len_of self.now }
@@ -45,14 +45,19 @@ impl Passed {
     }
 }
 
-/// The lines before the first match in bytes that are read ahead. The line of the match is copied into the line buffer,
-/// if all of it is there.
-pub fn take_ahead(search: &Search, bytes: &[u8], line: &mut Vec<u8>) -> Result<Passed, AllocError>
+/// The lines before the first match in buffered bytes. The line of the match is copied into `line`, if it is there as a
+/// whole.
+pub fn take_ahead(
+    line_end: u8,
+    search: &Search,
+    bytes: &[u8],
+    line: &mut Vec<u8>,
+) -> Result<Passed, AllocError>
     ensures takes { IfOk result (λ passed.
-        Takes search.now passed line.new.items (take (len_of passed) bytes.now)) }
+        Takes line_end search.now passed line.new.items (take (len_of passed) bytes.now)) }
     ensures inside { IfOk result (λ passed. len_of passed ≤ length bytes.now) }
 {
-    let passed = look_ahead(search, bytes);
+    let passed = look_ahead(line_end, search, bytes);
     if let Some(len) = passed.next {
         line.clear();
         line.extend_from_slice(&bytes[passed.bytes..passed.bytes + len])?;
@@ -61,91 +66,91 @@ pub fn take_ahead(search: &Search, bytes: &[u8], line: &mut Vec<u8>) -> Result<P
 }
 
 /// The same, without the copy.
-fn look_ahead(search: &Search, bytes: &[u8]) -> Passed
-    ensures { IsAhead search.now bytes.now result }
+fn look_ahead(line_end: u8, search: &Search, bytes: &[u8]) -> Passed
+    ensures { IsAhead line_end search.now bytes.now result }
 {
     let Some(found) = search.find(bytes) else {
-        let end = end_of_lines(bytes, bytes.len());
+        let end = end_of_lines(line_end, bytes, bytes.len());
         return Passed {
-            lines: count_feeds(&bytes[..end]),
+            lines: count_ends(line_end, &bytes[..end]),
             bytes: end,
             next: None,
         };
     };
-    let start = end_of_lines(bytes, found.start());
+    let start = end_of_lines(line_end, bytes, found.start());
     Passed {
-        lines: count_feeds(&bytes[..start]),
+        lines: count_ends(line_end, &bytes[..start]),
         bytes: start,
-        next: length_from(bytes, start, found),
+        next: length_from(line_end, bytes, start, found),
     }
 }
 
-/// The length of the line of a match, from the place where the line begins, if its line feed is there and follows the
-/// match.
-fn length_from(bytes: &[u8], start: usize, found: Match) -> Option<usize>
+/// The length of the line of a match, which begins at `start`. None if the line's end is missing, or comes before the
+/// match's end.
+fn length_from(line_end: u8, bytes: &[u8], start: usize, found: Match) -> Option<usize>
     requires before { start ≤ found.start }
     requires inside { found.end ≤ length bytes.now }
-    requires line { (k : ℕ) → start ≤ k → k < found.start → slice_index bytes.now k ≢ 10 }
-    ensures { MatchOption result ⊤ (LiesInLine bytes.now start found) }
+    requires line { (k : ℕ) → start ≤ k → k < found.start → slice_index bytes.now k ≢ line_end }
+    ensures { MatchOption result ⊤ (LiesInLine line_end bytes.now start found) }
 {
-    let end = first_feed(bytes, found.start());
+    let end = first_end(line_end, bytes, found.start());
     if end < found.end() || end == bytes.len() {
         return None;
     }
     Some(end - start)
 }
 
-/// The first line feed from a place on, or the end of the bytes.
-fn first_feed(bytes: &[u8], from: usize) -> usize
+/// The index of the first end of a line at or after `from`, or else the length of the bytes.
+fn first_end(line_end: u8, bytes: &[u8], from: usize) -> usize
     requires { from ≤ length bytes.now }
     ensures inside { (from ≤ result) × (result ≤ length bytes.now) }
-    ensures none { (k : ℕ) → from ≤ k → k < result → slice_index bytes.now k ≢ 10 }
-    ensures feed { result < length bytes.now → slice_index bytes.now result ≡ 10 }
+    ensures none { (k : ℕ) → from ≤ k → k < result → slice_index bytes.now k ≢ line_end }
+    ensures feed { result < length bytes.now → slice_index bytes.now result ≡ line_end }
 {
     for at in from..bytes.len() {
-        if bytes[at] == b'\n' {
+        if bytes[at] == line_end {
             return at;
         }
     }
     bytes.len()
 }
 
-/// The place behind the last line feed before another place, or 0 if there is none.
-fn end_of_lines(bytes: &[u8], place: usize) -> usize
+/// The index after the last end of a line before `place`, or 0 if there is none.
+fn end_of_lines(line_end: u8, bytes: &[u8], place: usize) -> usize
     requires { place ≤ length bytes.now }
     ensures before { result ≤ place }
-    ensures feed { (result ≡ 0) ⊎ ((0 < result) × (slice_index bytes.now (result - 1) ≡ 10)) }
-    ensures last { (k : ℕ) → result ≤ k → k < place → slice_index bytes.now k ≢ 10 }
+    ensures feed { (result ≡ 0) ⊎ ((0 < result) × (slice_index bytes.now (result - 1) ≡ line_end)) }
+    ensures last { (k : ℕ) → result ≤ k → k < place → slice_index bytes.now k ≢ line_end }
 {
     for end in (0..place).rev() {
-        if bytes[end] == b'\n' {
+        if bytes[end] == line_end {
             return end + 1;
         }
     }
     0
 }
 
-/// How many line feeds there are.
-fn count_feeds(bytes: &[u8]) -> usize
-    ensures { result ≡ count_by (λ byte. byte == 10) bytes.now }
+/// The number of ends of lines.
+fn count_ends(line_end: u8, bytes: &[u8]) -> usize
+    ensures { result ≡ count_by (λ byte. byte == line_end) bytes.now }
 {
     let (mut count, mut at) = (0, 0);
     while at < bytes.len() {
         let end = bytes.len().min(at + PART);
-        count += count_few(&bytes[at..end]) as usize;
+        count += count_few(line_end, &bytes[at..end]) as usize;
         at = end;
     }
     count
 }
 
-/// The same for so few bytes that the count fits into a byte. So the compiler can count in lanes of bytes.
-fn count_few(bytes: &[u8]) -> u8
+/// The same for at most 255 bytes, so that the count fits into a byte. The compiler can then count in byte lanes.
+fn count_few(line_end: u8, bytes: &[u8]) -> u8
     requires { length bytes.now ≤ 255 }
-    ensures { result ≡ count_by (λ byte. byte == 10) bytes.now }
+    ensures { result ≡ count_by (λ byte. byte == line_end) bytes.now }
 {
     let mut count = 0;
     for byte in bytes {
-        count += (*byte == b'\n') as u8;
+        count += (*byte == line_end) as u8;
     }
     count
 }

@@ -1,4 +1,4 @@
-//! What is printed of a line.
+//! Prints lines and matches.
 ghost use Rattle.std.specs.Prelude.{◌≡◌, ◌<◌, ◌+◌, ◌^◌, ℕ, List, length, min};
 ghost use Rattle.std.specs.Prelude.{IfErr, IfOk, OnOk};
 ghost use Rattle.std.specs.Io.KnownBytes.{Appends};
@@ -9,7 +9,7 @@ ghost use Rattle.litscan.specs.Context.{PrintsNear};
 ghost use Rattle.litscan.specs.Fault.{IsWriteFault};
 ghost use Rattle.litscan.specs.Options.{is_colored};
 ghost use Rattle.litscan.specs.Printed.{PrintsFound, PrintsWhole, marked_from, printed_head, printed_match};
-ghost use Rattle.litscan.specs.Printed.{printed_matches, printed_name, printed_part};
+ghost use Rattle.litscan.specs.Printed.{printed_front, printed_matches, printed_name, printed_part, printed_tab};
 
 use crate::asked::next_asked;
 use crate::color::{MATCH, NAME, print_colon, print_colored, print_number};
@@ -19,7 +19,7 @@ use crate::options::Options;
 use literal_search::Search;
 use std::io::Write;
 
-/// Prints a line that counts: all of it, or its matches.
+/// Prints a selected line: the whole line, or with `-o` its matches.
 pub fn print_found<W: Write>(
     search: &Search,
     options: Options,
@@ -43,7 +43,7 @@ pub fn print_found<W: Write>(
     print_line(search, options, name, number, offset, line, writer)
 }
 
-/// Prints a line near one that counts. It has matches only if the lines without a word count.
+/// Prints a context line. It has matches to print only with `-v`.
 pub fn print_near<W: Write>(
     search: &Search,
     options: Options,
@@ -70,7 +70,7 @@ pub fn print_near<W: Write>(
     print_part(near, name, number, offset, line, writer)
 }
 
-/// Prints the matches in a line, each as a line of its own. Answers 1 if there is one, and else 0.
+/// Prints each match in a line on a line of its own. Returns 1 if there is a match, and otherwise 0.
 pub fn print_matches<W: Write>(
     search: &Search,
     options: Options,
@@ -99,7 +99,7 @@ pub fn print_matches<W: Write>(
     Ok(count)
 }
 
-/// Prints a match in a line, as a line of its own.
+/// Prints a match on a line of its own.
 fn print_match<W: Write>(
     options: Options,
     name: &[u8],
@@ -109,15 +109,15 @@ fn print_match<W: Write>(
     writer: &mut Device<W>,
 ) -> Result<(), Fault>
     ensures printed { OnOk result (Appends (W.contents writer.old.inner) (W.contents writer.new.inner)
-        (printed_part options name.now number offset (printed_match options bytes.now))) }
+        (printed_part options name.now number offset bytes.now (printed_match options bytes.now))) }
     ensures error { IfErr result (IsWriteFault writer.new.failure) }
 {
-    print_head(options, name, number, offset, writer)?;
+    print_head(options, name, number, offset, bytes, writer)?;
     print_colored(options, MATCH, bytes, writer)?;
-    writer.write_all(b"\n")
+    writer.write_all(&[options.line_end])
 }
 
-/// Prints a line that counts, with the matches in it in colours where these are asked for.
+/// Prints a selected line, with its matches in colour if colours are requested.
 pub fn print_line<W: Write>(
     search: &Search,
     options: Options,
@@ -136,12 +136,12 @@ pub fn print_line<W: Write>(
     if !options.is_colored() {
         return print_part(options, name, number, offset, line, writer);
     }
-    print_head(options, name, number, offset, writer)?;
+    print_head(options, name, number, offset, line, writer)?;
     print_marked(search, options, line, writer)?;
-    writer.write_all(b"\n")
+    writer.write_all(&[options.line_end])
 }
 
-/// Prints a line.
+/// Prints a line with its prefix.
 pub fn print_part<W: Write>(
     options: Options,
     name: &[u8],
@@ -151,15 +151,15 @@ pub fn print_part<W: Write>(
     writer: &mut Device<W>,
 ) -> Result<(), Fault>
     ensures printed { OnOk result (Appends (W.contents writer.old.inner) (W.contents writer.new.inner)
-        (printed_part options name.now number offset bytes.now)) }
+        (printed_part options name.now number offset bytes.now bytes.now)) }
     ensures error { IfErr result (IsWriteFault writer.new.failure) }
 {
-    print_head(options, name, number, offset, writer)?;
+    print_head(options, name, number, offset, bytes, writer)?;
     writer.write_all(bytes)?;
-    writer.write_all(b"\n")
+    writer.write_all(&[options.line_end])
 }
 
-/// Prints a line with the matches in it in colours.
+/// Prints a line with its matches in colour.
 fn print_marked<W: Write>(
     search: &Search,
     options: Options,
@@ -181,8 +181,25 @@ fn print_marked<W: Write>(
     writer.write_all(&line[from..])
 }
 
-/// Prints what stands in front of a line, or of a match.
+/// Prints the prefix of a line or match with these bytes: file name, line number and offset, as requested, and the tab.
 fn print_head<W: Write>(
+    options: Options,
+    name: &[u8],
+    number: u64,
+    offset: u64,
+    bytes: &[u8],
+    writer: &mut Device<W>,
+) -> Result<(), Fault>
+    ensures printed { OnOk result (Appends (W.contents writer.old.inner) (W.contents writer.new.inner)
+        (printed_head options name.now number offset bytes.now)) }
+    ensures error { IfErr result (IsWriteFault writer.new.failure) }
+{
+    print_front(options, name, number, offset, writer)?;
+    print_tab(options, bytes, writer)
+}
+
+/// Prints file name, line number and offset, as requested.
+fn print_front<W: Write>(
     options: Options,
     name: &[u8],
     number: u64,
@@ -190,7 +207,7 @@ fn print_head<W: Write>(
     writer: &mut Device<W>,
 ) -> Result<(), Fault>
     ensures printed { OnOk result (Appends (W.contents writer.old.inner) (W.contents writer.new.inner)
-        (printed_head options name.now number offset)) }
+        (printed_front options name.now number offset)) }
     ensures error { IfErr result (IsWriteFault writer.new.failure) }
 {
     print_name(options, name, writer)?;
@@ -203,7 +220,20 @@ fn print_head<W: Write>(
     Ok(())
 }
 
-/// Prints the name of a file and a colon, where that is asked for.
+/// Prints the tab of `-T` before a line or match that is not empty, if anything else is printed before it.
+fn print_tab<W: Write>(options: Options, bytes: &[u8], writer: &mut Device<W>) -> Result<(), Fault>
+    ensures printed { OnOk result (Appends (W.contents writer.old.inner) (W.contents writer.new.inner)
+        (printed_tab options bytes.now)) }
+    ensures error { IfErr result (IsWriteFault writer.new.failure) }
+{
+    let has_head = options.named.unwrap_or(false) || options.numbers || options.offsets;
+    if options.tab && has_head && !bytes.is_empty() {
+        return writer.write_all(b"\t");
+    }
+    Ok(())
+}
+
+/// Prints the name of a file, and a colon or a zero byte, if names are requested.
 pub fn print_name<W: Write>(
     options: Options,
     name: &[u8],

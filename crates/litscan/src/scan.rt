@@ -1,4 +1,5 @@
-//! Which lines count, and what is printed of them.
+//! Decides which lines are selected (those with an allowed occurrence of a word, or with `-v` the others), and prints
+//! them.
 ghost use Rattle.std.specs.Prelude.{◌≡◌, ◌≢◌, ◌<◌, ◌≤◌, ◌+◌, ◌^◌, ◌&&◌, ◌||◌, ℕ, List, ◌∷◌, [], length, true};
 ghost use Rattle.std.specs.Prelude.{IfErr, IfOk, MatchOption, MatchResult, OnOk};
 ghost use Rattle.std.specs.List.{count_by};
@@ -6,7 +7,7 @@ ghost use Rattle.std.specs.Option.{IsSome};
 ghost use Rattle.std.specs.Io.KnownBytes.{Appends, Consumes, Keeps};
 ghost use Rattle.literal_base.specs.declared.packed.MatchKind.TheVariants.{LeftmostLongest};
 ghost use Rattle.litscan.specs.Asked.{one_asked};
-ghost use Rattle.litscan.specs.Fault.{IsReadFault, IsWriteFault, StopsRead};
+ghost use Rattle.litscan.specs.Fault.{IsWriteFault, StopsRead};
 ghost use Rattle.litscan.specs.Lines.{lines_of};
 ghost use Rattle.litscan.specs.Inside.Passed.{HasWord, Takes, TakesNext, lines_read};
 ghost use Rattle.litscan.specs.Options.{is_silent, limit_of};
@@ -26,20 +27,20 @@ use literal_search::Search;
 use std::alloc::Global;
 use std::io::{BufRead, ErrorKind, Write};
 
-/// After this many lines in a row without a match, a scan looks for the next match in all that is read ahead.
+/// After this many lines in a row without a match, a scan looks for the next match in all buffered bytes.
 const LONG: usize = 2;
 
-/// What a scan of a text found.
+/// The result of a scan of a text.
 #[derive(Clone, Copy)]
 pub struct Scanned {
-    /// How many of the lines that were read count.
+    /// The number of lines read that are selected.
     pub count: u64,
-    /// Of what kind the error was, if not all of the text could be read.
+    /// The kind of the error, if the text could not be read to its end.
     pub failure: Option<ErrorKind>,
 }
 
 impl Scanned {
-    /// All that has to be read was read, and so many lines count.
+    /// The scan read all that it has to read, and this many lines are selected.
     pub fn whole(count: u64) -> Scanned
         ensures { result ≡ record { count = count; failure = None } }
     {
@@ -49,7 +50,7 @@ impl Scanned {
         }
     }
 
-    /// So many lines count, and the text is too large to be read on.
+    /// This many lines are selected, and the text is too large to read on.
     pub fn too_large(count: u64) -> Scanned
         ensures { result ≡ record { count = count; failure = Some ErrorKind.FileTooLarge } }
     {
@@ -60,9 +61,9 @@ impl Scanned {
     }
 }
 
-/// Reads a text, prints what is asked for under this name, and says how many of its lines count. No more is read once
-/// enough count, and the lines after the last of them were read that are printed too. Where a read fails, what was read
-/// before is scanned.
+/// Reads a text, prints what the options request, with this file name, and returns the number of selected lines.
+/// Reading stops once enough lines are selected and the lines to print after the last of them are read. If a read
+/// fails, the lines read before it are still scanned.
 pub fn scan<R: BufRead + ReadsAhead, W: Write>(
     alloc: Global,
     search: &Search,
@@ -92,7 +93,7 @@ pub fn scan<R: BufRead + ReadsAhead, W: Write>(
     Ok(scanned)
 }
 
-/// Prints what is asked for behind the lines: how many count, or the name of the file.
+/// Prints the output that follows the lines, if requested: the number of selected lines, or the file name.
 fn print_behind<W: Write>(
     options: Options,
     name: &[u8],
@@ -116,7 +117,7 @@ fn print_behind<W: Write>(
     Ok(())
 }
 
-/// Prints the name of a file as a line, where a line counts, or where none does.
+/// Prints the name of a file on a line: with `found` if some line is selected, and otherwise if none is.
 fn print_listed<W: Write>(
     found: bool,
     options: Options,
@@ -135,7 +136,7 @@ fn print_listed<W: Write>(
     writer.write_all(if options.zero { b"\0" } else { b"\n" })
 }
 
-/// Reads a text until enough lines count, prints what is asked for of those that do, and says how many these are.
+/// Reads a text until enough lines are selected, prints them as requested, and returns how many lines are selected.
 fn scan_lines<R: BufRead + ReadsAhead, W: Write>(
     alloc: Global,
     search: &Search,
@@ -148,10 +149,10 @@ fn scan_lines<R: BufRead + ReadsAhead, W: Write>(
     ensures scanned { IfOk result (λ scanned. (text out : List ℕ)
         × Reads scanned.failure (are_enough options scanned) (R.remaining reader.old.inner)
         (R.remaining reader.new.inner) text
-        × StopsAtEnough (limit_of options) (counts search.now options) (lines_of text)
+        × StopsAtEnough (limit_of options) (counts search.now options) (lines_of options.line_end text)
         × Appends (W.contents writer.old.inner) (W.contents writer.new.inner) out
-        × PrintsUnlessSilent (is_silent options) search.now options name.now 1 0 (lines_of text) out
-        × (scanned.count ≡ count_by (counts search.now options) (lines_of text))) }
+        × PrintsUnlessSilent (is_silent options) search.now options name.now 1 0 (lines_of options.line_end text) out
+        × (scanned.count ≡ count_by (counts search.now options) (lines_of options.line_end text))) }
     ensures failed { IfOk result (λ scanned. CannotRead reader.new.failure
         (ReadsTooMany (R.remaining reader.old.inner) (R.remaining reader.new.inner)) scanned.failure) }
     ensures error { IfErr result (StopsScan reader.new.failure writer.new.failure) }
@@ -161,20 +162,14 @@ fn scan_lines<R: BufRead + ReadsAhead, W: Write>(
     let mut gap = Gap::new();
     loop {
         if is_enough(options.limit(), count) {
-            return Ok(Scanned {
-                count,
-                failure: None,
-            });
+            return Ok(Scanned::whole(count));
         }
         let next = match next_line(search, options, gap, reader, &mut line, writer) {
             Ok(next) => next,
             Err(fault) => return failed_behind(count, fault, reader.failure()),
         };
         let Some((start, end)) = offsets_behind(offset, next.passed.bytes, line.as_slice()) else {
-            return Ok(Scanned {
-                count,
-                failure: Some(ErrorKind::FileTooLarge),
-            });
+            return Ok(Scanned::too_large(count));
         };
         lines += next.passed.lines as u64 + 1;
         let taken = take_read(
@@ -189,17 +184,14 @@ fn scan_lines<R: BufRead + ReadsAhead, W: Write>(
         )?;
         count += taken;
         if !next.fed {
-            return Ok(Scanned {
-                count,
-                failure: None,
-            });
+            return Ok(Scanned::whole(count));
         }
         offset = end;
         gap = gap.with(next.passed.lines, taken > 0);
     }
 }
 
-/// The number of lines since the last one that counts, and of those between it and the one before it.
+/// The number of lines since the last selected one, and between it and the one before it.
 #[derive(Clone, Copy)]
 struct Gap {
     now: usize,
@@ -207,7 +199,7 @@ struct Gap {
 }
 
 impl Gap {
-    /// At the start of a text. It is long, so the scan begins with a look ahead.
+    /// The gap at the start of a text. It is long, so the scan begins by looking ahead.
     fn new() -> Gap {
         Gap {
             now: LONG,
@@ -215,7 +207,7 @@ impl Gap {
         }
     }
 
-    /// The gap after this many lines that were passed over, and one more line, which counts or does not.
+    /// The gap after this many skipped lines and one more line, selected or not.
     fn with(self, passed: usize, counts: bool) -> Gap {
         let now = self.now.saturating_add(passed);
         if counts {
@@ -236,16 +228,15 @@ impl Gap {
     }
 }
 
-/// What one step of a scan read: lines that were passed over, and the text in the line buffer.
+/// One step of a scan: the lines it skipped, and the text it read into the line buffer.
 #[derive(Clone, Copy)]
 struct Next {
     passed: Passed,
-    /// Whether a line feed followed the text in the line buffer. If not, this is the end of the input.
+    /// Whether the end of a line followed the text in the line buffer. If not, the input has ended.
     fed: bool,
 }
 
-/// Reads the next line that may count into the line buffer. It passes over lines that do not count, as far as these are
-/// read ahead.
+/// Reads the next line that may be selected into the line buffer. It skips buffered lines that are not selected.
 fn next_line<R: BufRead + ReadsAhead, W: Write>(
     search: &Search,
     options: Options,
@@ -263,12 +254,12 @@ fn next_line<R: BufRead + ReadsAhead, W: Write>(
     if passed.next.is_some() {
         return Ok(Next { passed, fed: true });
     }
-    flush_before_wait(reader, writer)?;
-    let fed = reader.read_line(line)?;
+    flush_before_wait(options.line_end, reader, writer)?;
+    let fed = reader.read_line(options.line_end, line)?;
     Ok(Next { passed, fed })
 }
 
-/// Passes over lines without a match, if these do not count and the last gap was long.
+/// Skips lines without a match, if such lines are not selected and the last gap was long.
 fn pass_lines<R: BufRead + ReadsAhead, W: Write>(
     search: &Search,
     options: Options,
@@ -277,7 +268,8 @@ fn pass_lines<R: BufRead + ReadsAhead, W: Write>(
     line: &mut Vec<u8>,
     writer: &mut Device<W>,
 ) -> Result<Passed, Fault>
-    ensures takes { IfOk result (λ passed. (text : List ℕ) × Takes search.now passed line.new.items text
+    ensures takes { IfOk result (λ passed. (text : List ℕ)
+        × Takes options.line_end search.now passed line.new.items text
         × Consumes (R.remaining reader.old.inner) (R.remaining reader.new.inner) text) }
     ensures none { IfOk result (λ passed. options.others ≡ true → passed.lines ≡ 0) }
     ensures kept { Keeps (W.contents writer.old.inner) (W.contents writer.new.inner) }
@@ -286,11 +278,11 @@ fn pass_lines<R: BufRead + ReadsAhead, W: Write>(
     if options.others || !gap.is_long() {
         return Ok(Passed::none());
     }
-    flush_before_wait(reader, writer)?;
-    reader.pass_lines(search, line)
+    flush_before_wait(options.line_end, reader, writer)?;
+    reader.pass_lines(options.line_end, search, line)
 }
 
-/// What a scan found whose read failed so. Any other fault ends all.
+/// The result of a scan after this fault: a failed read ends the scan, and any other fault is passed on.
 pub fn failed_behind(count: u64, fault: Fault, failure: Option<ErrorKind>) -> Result<Scanned, Fault>
     ensures { MatchResult result
         (λ scanned. (scanned ≡ record { count = count; failure = failure }) × (fault ≡ Fault.ReadFailed))
@@ -302,8 +294,8 @@ pub fn failed_behind(count: u64, fault: Fault, failure: Option<ErrorKind>) -> Re
     }
 }
 
-/// The offsets in the text behind so many bytes that were passed over, and behind the next line and its line feed, if
-/// these are below 2^64.
+/// The offset after this many skipped bytes, and the offset after the next line and its end. None if these reach
+/// 2^64.
 pub fn offsets_behind(offset: u64, passed: usize, line: &[u8]) -> Option<(u64, u64)>
     ensures { MatchOption result (2 ^ 64 ≤ offset + passed + length line.now + 1)
         (λ ends. (ends.0 ≡ offset + passed) × (ends.1 ≡ offset + passed + length line.now + 1)
@@ -316,7 +308,8 @@ pub fn offsets_behind(offset: u64, passed: usize, line: &[u8]) -> Option<(u64, u
     Some((start, next))
 }
 
-/// Takes what was read as a line: behind the last line feed only what is not empty.
+/// Handles the text in the buffer as a line, except an empty text at the end of the input. Returns 1 if the line is
+/// selected, and otherwise 0.
 fn take_read<W: Write>(
     next: Next,
     search: &Search,
@@ -348,8 +341,8 @@ fn take_read<W: Write>(
     Ok(taken)
 }
 
-/// Prints what is asked for of a line if it counts, unless no line is printed. Answers 1 if it counts,
-/// and else 0.
+/// Prints a selected line, as requested, unless no lines are printed. Returns 1 if the line is selected, and otherwise
+/// 0.
 fn take_line<W: Write>(
     known: bool,
     search: &Search,
@@ -384,14 +377,14 @@ fn take_line<W: Write>(
     Ok(1)
 }
 
-/// Whether nothing is printed of any line: no line is asked for, or the matches of lines without one.
+/// Whether no line leads to output: lines are not requested, or only the matches of lines without a match.
 fn prints_nothing(options: Options) -> bool
     ensures { result ≡ (is_silent options || (options.only && options.others)) }
 {
     options.is_silent() || options.only && options.others
 }
 
-/// Whether a line counts, of which it may be known that a word occurs in it.
+/// Whether a line is selected. With `known`, a word is known to occur in it.
 pub fn counts(known: bool, search: &Search, options: Options, line: &[u8]) -> bool
     requires known { known ≡ true → HasWord search.now line.now }
     requires longest { search.now.query.kind ≡ LeftmostLongest }
@@ -400,7 +393,7 @@ pub fn counts(known: bool, search: &Search, options: Options, line: &[u8]) -> bo
     is_asked(known, search, options, line) != options.others
 }
 
-/// Whether a word occurs in a line as is asked for.
+/// Whether a word occurs in a line as `-w` and `-x` require.
 fn is_asked(known: bool, search: &Search, options: Options, line: &[u8]) -> bool
     requires known { known ≡ true → HasWord search.now line.now }
     requires longest { search.now.query.kind ≡ LeftmostLongest }

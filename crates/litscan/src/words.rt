@@ -1,4 +1,4 @@
-//! The words, and the search for them.
+//! Reads the words, and builds the search for them.
 ghost use Rattle.std.specs.Prelude.{◌≡◌, ◌<◌, ◌≤◌, ◌++◌, List, ℕ, IfErr, IfOk, IfSome, OnOk, length, map};
 ghost use Rattle.std.specs.List.{flat_map};
 ghost use Rattle.literal_base.specs.declared.packed.MatchKind.TheVariants.{LeftmostLongest};
@@ -18,11 +18,11 @@ use literal_search::{MatchKind, Search};
 use std::alloc::Global;
 use std::io::{BufRead, ErrorKind};
 
-/// The words that these sources give.
+/// The words of these sources.
 pub fn words_of(rt: &HostRuntime, sources: &[Source]) -> Result<Vec<Vec<u8>>, Fault>
     ensures words { IfOk result (λ words. (texts : List (List ℕ))
         × AreTextsOf (map value_of_source sources.now) texts
-        × (map (λ word. word.items) words.items ≡ flat_map lines_of texts)) }
+        × (map (λ word. word.items) words.items ≡ flat_map (lines_of 10) texts)) }
     ensures error { IfErr result StopsWords }
 {
     let mut words = Vec::new(rt.alloc());
@@ -34,7 +34,7 @@ pub fn words_of(rt: &HostRuntime, sources: &[Source]) -> Result<Vec<Vec<u8>>, Fa
     Ok(words)
 }
 
-/// How many sources are arguments, with one source more.
+/// Adds 1 if the source is an argument of the command line.
 fn count_given(given: u64, source: &Source) -> u64 {
     match source {
         Source::Words(_) => given.saturating_add(1),
@@ -42,8 +42,8 @@ fn count_given(given: u64, source: &Source) -> u64 {
     }
 }
 
-/// Adds the words that a source gives, if none of them is empty. Else that is told of, for an argument with how many
-/// were given up to it.
+/// Adds the words of a source, if none of them is empty. An empty word is reported. `given` is the number of sources,
+/// so far, that are arguments.
 fn add_words(
     rt: &HostRuntime,
     source: &Source,
@@ -51,7 +51,7 @@ fn add_words(
     words: &mut Vec<Vec<u8>>,
 ) -> Result<(), Fault>
     ensures added { OnOk result ((text : List ℕ) × IsTextOf (value_of_source source.now) text
-        × (map (λ word. word.items) words.new.items ≡ map (λ word. word.items) words.old.items ++ lines_of text)) }
+        × (map (λ word. word.items) words.new.items ≡ map (λ word. word.items) words.old.items ++ lines_of 10 text)) }
     ensures error { IfErr result StopsWords }
 {
     let before = words.len();
@@ -63,7 +63,7 @@ fn add_words(
     Err(Fault::Told)
 }
 
-/// The first of the words from one on that is empty.
+/// The index of the first empty word, at or after index `from`.
 fn first_empty(words: &[Vec<u8>], from: usize) -> Option<usize>
     ensures found { IfSome result (λ at. (from ≤ at) × (at < length words.now)) }
 {
@@ -75,7 +75,7 @@ fn first_empty(words: &[Vec<u8>], from: usize) -> Option<usize>
     None
 }
 
-/// Tells where an empty word stands: in which line of which file, or of which argument. The line is counted from 0 up.
+/// Reports the position of an empty word: the file, or the number of the argument, and the line, counted from 0 here.
 fn tell_empty(rt: &HostRuntime, source: &Source, given: u64, line: usize) {
     let number = line.saturating_add(1);
     match source {
@@ -86,10 +86,10 @@ fn tell_empty(rt: &HostRuntime, source: &Source, given: u64, line: usize) {
     }
 }
 
-/// Adds the words that a source gives.
+/// Adds the words of a source.
 fn add_source(rt: &HostRuntime, source: &Source, words: &mut Vec<Vec<u8>>) -> Result<(), Fault>
     ensures added { OnOk result ((text : List ℕ) × IsTextOf (value_of_source source.now) text
-        × (map (λ word. word.items) words.new.items ≡ map (λ word. word.items) words.old.items ++ lines_of text)) }
+        × (map (λ word. word.items) words.new.items ≡ map (λ word. word.items) words.old.items ++ lines_of 10 text)) }
     ensures error { IfErr result StopsWords }
 {
     match source {
@@ -98,10 +98,10 @@ fn add_source(rt: &HostRuntime, source: &Source, words: &mut Vec<Vec<u8>>) -> Re
     }
 }
 
-/// Adds each line of the bytes, and of what stands behind the last line feed too if it is empty.
+/// Adds each line of the bytes. The text after the last line feed is a line too, even if it is empty.
 fn add_given(alloc: Global, bytes: &[u8], words: &mut Vec<Vec<u8>>) -> Result<(), Fault>
     ensures added { OnOk result (map (λ word. word.items) words.new.items
-        ≡ map (λ word. word.items) words.old.items ++ lines_of (with_feed bytes.now)) }
+        ≡ map (λ word. word.items) words.old.items ++ lines_of 10 (with_feed bytes.now)) }
     ensures error { IfErr result (λ fault. fault ≡ OutOfMemory) }
 {
     let mut text = Vec::from_slice(alloc, bytes).or(Err(Fault::OutOfMemory))?;
@@ -110,10 +110,10 @@ fn add_given(alloc: Global, bytes: &[u8], words: &mut Vec<Vec<u8>>) -> Result<()
     add_lines(alloc, &mut reader, words).or(Err(Fault::OutOfMemory))
 }
 
-/// Adds each line of the file of this name, or of standard input. One that cannot be opened or read is told of.
-fn add_file(rt: &HostRuntime, name: &[u8], words: &mut Vec<Vec<u8>>) -> Result<(), Fault>
+/// Adds each line of this file, or of standard input. A file that cannot be opened or read is reported.
+pub fn add_file(rt: &HostRuntime, name: &[u8], words: &mut Vec<Vec<u8>>) -> Result<(), Fault>
     ensures added { OnOk result ((text : List ℕ)
-        × (map (λ word. word.items) words.new.items ≡ map (λ word. word.items) words.old.items ++ lines_of text)) }
+        × (map (λ word. word.items) words.new.items ≡ map (λ word. word.items) words.old.items ++ lines_of 10 text)) }
     ensures error { IfErr result StopsWords }
 {
     if is_input(name) {
@@ -129,7 +129,7 @@ fn add_file(rt: &HostRuntime, name: &[u8], words: &mut Vec<Vec<u8>>) -> Result<(
     }
 }
 
-/// Adds each line of a text. If it cannot be read that is told of.
+/// Adds each line of a text. If it cannot be read, that is reported.
 fn add_told<R: BufRead + Drop>(
     rt: &HostRuntime,
     name: &[u8],
@@ -137,14 +137,15 @@ fn add_told<R: BufRead + Drop>(
     words: &mut Vec<Vec<u8>>,
 ) -> Result<(), Fault>
     ensures added { OnOk result ((text : List ℕ)
-        × (map (λ word. word.items) words.new.items ≡ map (λ word. word.items) words.old.items ++ lines_of text)) }
+        × (map (λ word. word.items) words.new.items ≡ map (λ word. word.items) words.old.items ++ lines_of 10 text)) }
     ensures error { IfErr result StopsWords }
 {
     let mut reader = reader;
     match add_lines(rt.alloc(), &mut reader, words) {
         Ok(()) => Ok(()),
         Err(Fault::ReadFailed) => {
-            tell(rt, name, reader.failure().unwrap_or(ErrorKind::Other));
+            let kind = reader.failure().unwrap_or(ErrorKind::Other);
+            tell(rt, shown_name(name), kind);
             Err(Fault::Told)
         }
         Err(fault) => Err(fault),

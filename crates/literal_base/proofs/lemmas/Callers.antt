@@ -3,7 +3,7 @@
 -- For callers: their proofs cite this file, and no other of this crate's proofs.
 use Rattle.std.proofs.Common.{◌≡◌, ◌==◌, ℕ, ◌+◌, ◌-◌, ◌<◌, ◌≤◌, ◌||◌, ◌↔◌, Bool, true, false, List, [], ◌∷◌, ◌++◌}
 use Rattle.std.proofs.Common.{length, get_or, slice_index, take, zero, suc, cond, sym, refl, ap, subst, ⊎_elim, ◌∙◌}
-use Rattle.std.proofs.Common.{arith, drop, inl, map}
+use Rattle.std.proofs.Common.{arith, drop, inl}
 use Rattle.std.proofs.Common.{◌^◌, Option}
 use Rattle.std.specs.Array.Iter.{array_into_iter_items, array_steps, array_steps_back}
 use Rattle.std.specs.declared.array.IntoIter.{IntoIter}

@@ -1,7 +1,7 @@
 -- There is a leftmost answer, and a greedy list: found by going over the places and the patterns.
 -- For the laws `leftmost_exists` and `greedy_exists`.
-use Rattle.std.proofs.Common.{ℕ, ◌+◌, ◌<◌, ◌≤◌, ◌⊎◌, inl, inr, Bool, true, false, List, [], ◌∷◌, length, Option, Some}
-use Rattle.std.proofs.Common.{None, refl, sym, subst, arith, zero, suc, slice_range}
+use Rattle.std.proofs.Common.{◌≡◌, ℕ, ◌+◌, ◌<◌, ◌≤◌, ◌⊎◌, inl, inr, Bool, true, false, List, [], ◌∷◌, length, Option}
+use Rattle.std.proofs.Common.{None, Some, refl, sym, subst, arith, zero, suc, slice_range}
 use Rattle.std.specs.Bool.{Decides}
 use Rattle.std.specs.Str.{bytes_eq}
 use Rattle.std.proofs.lemmas.Bool.{cases_order, false≢true}
@@ -12,7 +12,7 @@ use Rattle.literal_base.specs.declared.search.Span.{Span}
 use Rattle.literal_base.specs.MatchValue.{MatchValue}
 use Rattle.literal_base.specs.Query.{Query}
 use Rattle.literal_base.specs.Occurs.{NoneIsEmpty, case_folded, pattern_at, Occurs, rest_from}
-use Rattle.literal_base.specs.Leftmost.{IsBetter, IsLeftmostMatch, IsLeftmost}
+use Rattle.literal_base.specs.Leftmost.{IsBetter, IsLeftmost}
 use Rattle.literal_base.specs.Greedy.{IsGreedy}
 use Rattle.literal_base.proofs.lemmas.Unique.{better_one}
 
@@ -43,28 +43,36 @@ better-transitive LeftmostLongest patterns i j k a b =
       | inr same ↦ elim b [ inl more ↦ inl (omega arith) | inr again ↦ inr (omega arith, omega arith) ]
     ]
 
-module _ (query : Query) (ignore_case : Bool) (haystack : List ℕ) (span : Span) where
+-- Of the occurrences with a property that is decided: the leftmost one, and of those that begin there the best.
+module _ (query : Query) (ignore_case : Bool) (haystack : List ℕ) (span : Span) (Also : ℕ → ℕ → Type 0)
+    (also_or_not : (i at : ℕ) → Also i at ⊎ ¬ Also i at) where
   abbrev OccursAt : ℕ → ℕ → Type 0
-  OccursAt i at = Occurs query.patterns ignore_case haystack span i at
+  OccursAt i at = Occurs query.patterns ignore_case haystack span i at × Also i at
 
   occurs_or_not : (i at : ℕ) → i < length query.patterns → OccursAt i at ⊎ ¬ OccursAt i at
   occurs_or_not i at is_pattern =
       let bytes = pattern_at query.patterns i in
       let there = slice_range haystack at (at + length bytes) in
-      elim (at_most_or_not span.start at) [
-        | inr before ↦ inr (λ o. before o.after_start)
-        | inl after ↦ elim (at_most_or_not (at + length bytes) span.end) [
-          | inr past ↦ inr (λ o. past o.before_end)
-          | inl inside ↦ elim (decided (bytes_eq (case_folded ignore_case there) (case_folded ignore_case bytes))
-              (bytes_eq-Decides (case_folded ignore_case there) (case_folded ignore_case bytes))) [
-                | inr differs ↦ inr (λ o. differs o.same)
-                | inl same ↦ inl (record {
-                  is_pattern = is_pattern;
-                  after_start = after;
-                  before_end = inside;
-                  same = same;
-                })
-              ]
+      elim (also_or_not i at) [
+        | inr alone ↦ inr (λ o. alone o.1)
+        | inl also ↦ elim (at_most_or_not span.start at) [
+          | inr before ↦ inr (λ o. before o.0.after_start)
+          | inl after ↦ elim (at_most_or_not (at + length bytes) span.end) [
+            | inr past ↦ inr (λ o. past o.0.before_end)
+            | inl inside ↦ elim (decided (bytes_eq (case_folded ignore_case there) (case_folded ignore_case bytes))
+                (bytes_eq-Decides (case_folded ignore_case there) (case_folded ignore_case bytes))) [
+                  | inr differs ↦ inr (λ o. differs o.0.same)
+                  | inl same ↦ inl (
+                    record {
+                      is_pattern = is_pattern;
+                      after_start = after;
+                      before_end = inside;
+                      same = same;
+                    },
+                    also,
+                  )
+                ]
+          ]
         ]
       ]
 
@@ -138,33 +146,55 @@ module _ (query : Query) (ignore_case : Bool) (haystack : List ℕ) (span : Span
         ]
       ]
 
-  -- the leftmost match among those that begin before a place
-  leftmost_before : (m : ℕ) → ((i at : ℕ) → at < m → ¬ OccursAt i at)
-      ⊎ ((found : MatchValue) × IsLeftmostMatch query ignore_case haystack span found)
+  -- the leftmost of them, and the best that begins there
+  pub record IsLeftmostOf (found : MatchValue) : Type 0 where
+    pub occurs : OccursAt found.pattern found.start
+    pub whole : found.end ≡ found.start + length (pattern_at query.patterns found.pattern)
+    pub earliest : (i at : ℕ) → at < found.start → ¬ OccursAt i at
+    pub best : (i : ℕ) → IsBetter query.kind query.patterns i found.pattern → ¬ OccursAt i found.start
+
+  -- the leftmost one among those that begin before a place
+  leftmost_before : (m : ℕ) → ((i at : ℕ) → at < m → ¬ OccursAt i at) ⊎ ((found : MatchValue) × IsLeftmostOf found)
   leftmost_before zero = inl (λ i at before. absurd (omega arith))
   leftmost_before (suc m) =
       elim (leftmost_before m) [
         | inr found ↦ inr found
         | inl none ↦ elim (best_of (length query.patterns) m (omega arith)) [
-          | inl nothing ↦ inl (λ i. one_more {P = λ at. ¬ OccursAt i at} m (none i) (λ o. nothing i o.is_pattern o))
+          | inl nothing ↦ inl (λ i. one_more {P = λ at. ¬ OccursAt i at} m (none i) (λ o. nothing i o.0.is_pattern o))
           | inr found ↦ inr (
             record { pattern = found.0; start = m; end = m + length (pattern_at query.patterns found.0) },
             record {
               occurs = found.1.occurs;
               whole = refl;
               earliest = none;
-              best = λ i better o. found.1.best i o.is_pattern better o;
+              best = λ i better o. found.1.best i o.0.is_pattern better o;
             },
           )
         ]
       ]
 
-  pub leftmost_exists_lem : (answer : Option MatchValue) × IsLeftmost query ignore_case haystack span answer
-  leftmost_exists_lem =
+  pub leftmost_or_none : ((i at : ℕ) → ¬ OccursAt i at) ⊎ ((found : MatchValue) × IsLeftmostOf found)
+  leftmost_or_none =
       elim (leftmost_before (span.end + 1)) [
-        | inr found ↦ (Some found.0, found.1)
-        | inl none ↦ (None, λ i at o. none i at (omega (arith, o.before_end)) o)
+        | inr found ↦ inr found
+        | inl none ↦ inl (λ i at o. none i at (omega (arith, o.0.before_end)) o)
       ]
+
+pub leftmost_exists_lem : (query : Query) (ignore_case : Bool) (haystack : List ℕ) (span : Span)
+    → (answer : Option MatchValue) × IsLeftmost query ignore_case haystack span answer
+leftmost_exists_lem query ignore_case haystack span =
+    elim (leftmost_or_none query ignore_case haystack span (λ _ _. Unit {0}) (λ _ _. inl tt)) [
+      | inl none ↦ (None, λ i at o. none i at (o, tt))
+      | inr found ↦ (
+        Some found.0,
+        record {
+          occurs = found.1.occurs.0;
+          whole = found.1.whole;
+          earliest = λ i at before o. found.1.earliest i at before (o, tt);
+          best = λ i better o. found.1.best i better (o, tt);
+        },
+      )
+    ]
 
 module _ (query : Query) (ignore_case : Bool) (haystack : List ℕ) (not_empty : NoneIsEmpty query.patterns) where
   abbrev GreedyFrom : ℕ → Type 0

@@ -1,8 +1,8 @@
 -- What occurs in a haystack has a place in a match of the greedy list; and the test whether a pattern occurs.
 -- For the laws `matches_meet_all_that_occurs` and `one_occurs_where_a_pattern_does`, and for searches above.
 use Rattle.std.proofs.Common.{◌≡◌, ℕ, ◌+◌, ◌<◌, ◌≤◌, ◌&&◌, Bool, true, List, [], ◌∷◌, length, get_or, nat_le}
-use Rattle.std.proofs.Common.{nat_lt, Option, Some, None, is_some, slice_range, sym, subst, ⊎_elim, ◌∙◌, arith}
-use Rattle.std.proofs.lemmas.Bool.{and_from, and_parts, cases_Bool, cases_lt, le-leb, leb-true, lt-ltb, or_left}
+use Rattle.std.proofs.Common.{nat_lt, slice_range, sym, subst, ⊎_elim, ◌∙◌, arith}
+use Rattle.std.proofs.lemmas.Bool.{and_from, and_parts, cases_lt, le-leb, leb-true, lt-ltb, or_left}
 use Rattle.std.proofs.lemmas.Bool.{or_right}
 use Rattle.std.proofs.lemmas.List.{get_or_default}
 use Rattle.std.proofs.lemmas.List.Elements.{All-cons, All-nil}
@@ -11,7 +11,6 @@ use Rattle.std.proofs.lemmas.List.FromFn.{get_or-range_with_len, length-range_wi
 use Rattle.std.proofs.lemmas.Slice.Eq.{bytes_eq-Decides}
 use Rattle.std.specs.List.{All, list_any, range_with_len}
 use Rattle.literal_base.specs.Greedy.{IsGreedy, lies_in_one}
-use Rattle.literal_base.specs.Leftmost.{IsLeftmost}
 use Rattle.literal_base.specs.MatchValue.{MatchValue}
 use Rattle.literal_base.specs.Occurs.{NoneIsEmpty, Occurs, case_folded, one_occurs, pattern_at, rest_from, stands_at}
 use Rattle.literal_base.specs.Occurs.{whole_of}
@@ -99,15 +98,3 @@ module _ (patterns : List (List ℕ)) (ignore_case : Bool) (haystack : List ℕ)
           same = (bytes_eq-Decides _ _).0 parts.1;
         },
       )
-
--- a leftmost answer in the whole haystack is a match exactly if the test tells that a pattern occurs
-pub is_some_where_one_occurs : (query : Query) (ignore_case : Bool) (haystack : List ℕ) (answer : Option MatchValue)
-    → IsLeftmost query ignore_case haystack (whole_of haystack) answer
-    → is_some answer ≡ one_occurs query.patterns ignore_case haystack
-is_some_where_one_occurs query ignore_case haystack None nothing =
-    ⊎_elim (λ told.
-    let o = occurs_if query.patterns ignore_case haystack told in
-    absurd (nothing o.0 o.1 o.2))
-    sym (cases_Bool (one_occurs query.patterns ignore_case haystack))
-is_some_where_one_occurs query ignore_case haystack (Some found) leftmost =
-    sym (one_occurs_if query.patterns ignore_case haystack found.pattern found.start leftmost.occurs)

@@ -148,7 +148,15 @@ all_more P i written found lt before here =
     subst (All P) (sym (rw add-one (take-suc-set written i found lt)))
     (All-push P (take i written) found before here)
 
--- an iteration that gave one more, which is written behind the others
+-- an iteration that gave one more
+pub pushed : (first : OverlappingMatchesValue) (all : List MatchValue) (last next : OverlappingMatchesValue)
+    (found : MatchValue) → Yields GivesOverlapping first all last → GivesOverlapping last (Some found) next
+    → Yields GivesOverlapping first (all ++ found ∷ []) next
+pushed first [] last next found stays here =
+    (next, subst (λ j. GivesOverlapping j (Some found) next) (sym stays) here, refl)
+pushed first (x ∷ xs) last next found run here = (run.0, run.1, pushed run.0 xs last next found run.2 here)
+
+-- the same, where it is written behind the others
 pub given_more : (first : OverlappingMatchesValue) (written : List LiteralMatch) (i : ℕ) (found : LiteralMatch)
     (last next : OverlappingMatchesValue) → i < length written
     → Yields GivesOverlapping first (map match_of (take i written)) last
@@ -160,9 +168,4 @@ given_more first written i found last next lt before here =
     ap (map match_of) (rw add-one (take-suc-set written i found lt)) ∙ map-append match_of (take i written) (found ∷ [])
     in
     subst (λ all. Yields GivesOverlapping first all next) (sym list)
-    (pushed first (map match_of (take i written)) before)
-  where
-    pushed : (s : OverlappingMatchesValue) (xs : List MatchValue) → Yields GivesOverlapping s xs last
-        → Yields GivesOverlapping s (xs ++ match_of found ∷ []) next
-    pushed s [] stays = (next, subst (λ j. GivesOverlapping j (Some (match_of found)) next) (sym stays) here, refl)
-    pushed s (x ∷ xs) run = (run.0, run.1, pushed run.0 xs run.2)
+    (pushed first (map match_of (take i written)) last next (match_of found) before here)

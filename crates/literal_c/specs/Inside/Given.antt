@@ -1,4 +1,4 @@
--- What an iteration gave of which little is known, and what is left of one.
+-- The matches of an iteration about which little is known, and the rest of one.
 use Rattle.std.specs.Prelude.{◌≡◌, ◌⊎◌, ℕ, ◌≤◌, List, length, take}
 use Rattle.std.specs.List.{All}
 use Rattle.literal_base.specs.Bytes.{contains}
@@ -12,7 +12,7 @@ use Rattle.literal_c.specs.Answers.{match_of}
 use Rattle.literal_c.specs.declared.LiteralMatch.{LiteralMatch}
 use Rattle.literal_c.specs.declared.LiteralPage.{LiteralPage}
 
--- an offset is where an iteration began, or the end of something that it may give
+-- the offset is where an iteration began, or the end of a match that it may give
 abbrev pub IsReached : (MatchValue → Type 0) → ℕ → ℕ → Type 0
 IsReached MayGive start next = (next ≡ start) ⊎ ((found : MatchValue) × MayGive found × (next ≡ found.end))
 
@@ -24,17 +24,17 @@ pub record AreGiven (MayGive : MatchValue → Type 0) (start : ℕ) (new : List 
   pub reached : IsReached MayGive start page.next
   pub rest : (page.is_last ≡ 1) ⊎ ((page.is_last ≡ 0) × (page.written ≡ length new))
 
--- what is left of an iteration over leftmost matches: a span of a haystack, and how many patterns it may find there
+-- the rest of an iteration over leftmost matches: a span of a haystack, and the number of patterns
 pub record Rest : Type 0 where
   pub haystack : List ℕ
   pub span : Span
   pub patterns : ℕ
 
--- what is left of it behind an offset
+-- the rest from an offset on
 abbrev pub behind : Rest → ℕ → Rest
 behind rest at = record rest { span = between at rest.span.end }
 
--- a search for whole words is by an array, a kind, and the ASCII word bytes
+-- a search for whole words by an array, a match kind, and the ASCII word bytes
 pub record AreWordsBy (kind : MatchKind) (array : List ℕ) (words : PreparedWordsValue) : Type 0 where
   pub numbers : words.numbers ≡ array
   pub kind_is : words.kind ≡ kind

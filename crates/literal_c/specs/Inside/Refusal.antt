@@ -6,15 +6,15 @@ use Rattle.literal_c.specs.declared.TheConstants.{LITERAL_TOO_LARGE}
 use Rattle.literal_c.specs.declared.arguments.Refusal.{Refusal}
 use Rattle.literal_c.specs.declared.arguments.Refusal.TheVariants.{BadArguments, NoSearcher, OutOfMemory, TooLarge}
 
--- a refusal says what holds: the arguments do not agree; or they do, and the patterns can't be searched for; or they
--- can, and there is one or more and no memory, or they need too many states
+-- the meaning of an error: the arguments are not valid; or they are, and the patterns can't be searched for; or they
+-- can, and there is a pattern and no memory, or they need too many states
 abbrev pub IsRefused : Type 0 → List (List ℕ) → Type 0 → Refusal → Type 0
 IsRefused agree patterns need_too_many BadArguments = ¬ agree
 IsRefused agree patterns need_too_many NoSearcher = agree × ¬ CanBeKept patterns
 IsRefused agree patterns need_too_many OutOfMemory = agree × CanBeKept patterns × (0 < length patterns)
 IsRefused agree patterns need_too_many TooLarge = agree × CanBeKept patterns × need_too_many
 
--- the status of a refusal
+-- the status of an error
 abbrev pub status_of : Refusal → ℤ
 status_of BadArguments = LITERAL_BAD_ARGUMENTS
 status_of NoSearcher = LITERAL_NO_SEARCHER

@@ -1,5 +1,5 @@
 -- What a scan by 32 bytes a turn knows.
-use Rattle.std.proofs.Common.{◌≡◌, ◌≢◌, ℕ, ◌+◌, ◌-◌, ◌%◌, ◌<◌, ◌≤◌, ◌∙◌, List, ap, arith, bit_and, get_or, inl, inr}
+use Rattle.std.proofs.Common.{◌≡◌, ◌≢◌, ℕ, ◌+◌, ◌-◌, ◌<◌, ◌≤◌, ◌∙◌, List, ap, arith, bit_and, get_or, inl, inr}
 use Rattle.std.proofs.Common.{sym}
 use Rattle.std.proofs.lemmas.Bool.{cases_lt}
 use Rattle.std.proofs.lemmas.Nat.{and_assoc, and_comm}
@@ -9,16 +9,6 @@ use Rattle.literal_fingerprints.specs.Inside.Lanes.{HasBack, HasLanes, HasWide}
 use Rattle.literal_fingerprints.specs.Inside.Scan.{NoneShared, high_of, low_of, shared_highs, shared_lows}
 use Rattle.literal_fingerprints.proofs.lemmas.Scan.{same_shared}
 use Rattle.literal_fingerprints.proofs.lemmas.Sets.{meets}
-
--- the two halves of a vector that has another one twice, or that is the next of one
-pub back_of_twice : (bytes lanes : List ℕ) (f : ℕ → ℕ) → HasLanes bytes f → HasWide lanes (λ k. get_or bytes (k % 16) 0)
-    → HasBack lanes f
-back_of_twice bytes lanes f has twice = record {
-  long = twice.long;
-  each = λ k below.
-      let place : (16 + k) % 16 ≡ k = omega arith in
-      twice.each (16 + k) (omega arith) ∙ (ap (λ j. get_or bytes j 0) place ∙ has.each k below);
-}
 
 pub lanes_of_half : (lanes half : List ℕ) (f : ℕ → ℕ) → HasBack lanes f → HasLanes half (λ k. get_or lanes (16 + k) 0)
     → HasLanes half f

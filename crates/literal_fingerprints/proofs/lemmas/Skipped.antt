@@ -27,7 +27,8 @@ equal_behind false n a b same = ap (drop n) same
 equal_behind true n a b same =
     sym (drop-map to_ascii_lowercase n a) ∙ (ap (drop n) same ∙ drop-map to_ascii_lowercase n b)
 
-part_behind : (xs : List ℕ) (start end n : ℕ) → start + n ≤ end
+-- a part that begins later is the part without its first bytes
+pub part_behind : (xs : List ℕ) (start end n : ℕ) → start + n ≤ end
     → slice_range xs (start + n) end ≡ drop n (slice_range xs start end)
 part_behind xs start end n within =
     let len : n + (end - (start + n)) ≡ end - start = omega (arith, within) in

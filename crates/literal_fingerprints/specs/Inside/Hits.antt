@@ -1,12 +1,12 @@
--- Bytes of a haystack compared with rare ones. Places are numbered from 16 before the haystack on, so that there are
--- some before the first byte that is compared.
+-- Bytes of a haystack compared with rare ones. Places are offsets plus 16, so that there are some before the first byte
+-- that is compared.
 use Rattle.std.specs.Prelude.{ℕ, ◌+◌, ◌-◌, ◌==◌, if◌then◌else◌, Bool, true, false, List, bit_and, bit_or, nat_lt}
 use Rattle.std.specs.Prelude.{slice_index}
 use Rattle.literal_fingerprints.specs.Inside.Lanes.{HasLanes}
 use Rattle.literal_fingerprints.specs.declared.pair.Compared.{Compared}
 use Rattle.literal_fingerprints.specs.declared.pair.RarePair.{RarePair}
 
--- 255 where a byte is the rare one, once the bits of a mask are set in it, and else 0
+-- 255 if a byte is the rare one, once the bits of a mask are set in it, otherwise 0
 abbrev pub hit : ℕ → ℕ → ℕ → ℕ
 hit rare mask byte = if bit_or byte mask == rare then 255 else 0
 
@@ -28,7 +28,7 @@ pair_hit_at pair first_mask second_mask three apart haystack origin place =
     (hit_at pair.second.byte second_mask haystack origin (place + apart)))
     (hit_at pair.between first_mask haystack origin (place + 1))
 
--- the hits of each byte of a pair in the 16 bytes that end before a place
+-- the hits of each byte of a pair in the 16 bytes before an offset
 pub record AreHits (compared : Compared) (pair : RarePair) (first_mask second_mask : ℕ) (haystack : List ℕ)
     (origin at : ℕ) : Type 0 where
   pub first : HasLanes compared.first (λ k. hit_at pair.first.byte first_mask haystack origin (at + k))

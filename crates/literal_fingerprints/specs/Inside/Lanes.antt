@@ -1,7 +1,7 @@
 -- Vectors of 16 and of 32 bytes.
 use Rattle.std.specs.Prelude.{◌≡◌, ℕ, ◌+◌, ◌<◌, List, length, slice_index}
 
--- a vector has so many lanes, each with this value
+-- a vector has n lanes, each with this value
 pub record AreLanes (n : ℕ) (lanes : List ℕ) (value : ℕ → ℕ) : Type 0 where
   pub long : length lanes ≡ n
   pub each : (k : ℕ) → k < n → slice_index lanes k ≡ value k
@@ -10,7 +10,7 @@ pub record AreLanes (n : ℕ) (lanes : List ℕ) (value : ℕ → ℕ) : Type 0 
 abbrev pub HasLanes : List ℕ → (ℕ → ℕ) → Type 0
 HasLanes lanes value = AreLanes 16 lanes value
 
--- the same of a vector of 32
+-- the same for a vector of 32
 abbrev pub HasWide : List ℕ → (ℕ → ℕ) → Type 0
 HasWide lanes value = AreLanes 32 lanes value
 

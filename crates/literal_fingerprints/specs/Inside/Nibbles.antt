@@ -1,9 +1,9 @@
--- The tables as they are kept.
+-- The tables as their fields.
 use Rattle.std.specs.Prelude.{ℕ, List, [], ◌∷◌}
 use Rattle.literal_fingerprints.specs.FingerprintsValue.{FingerprintsValue, HalfTable}
 use Rattle.literal_fingerprints.specs.declared.nibbles.Nibbles.{Nibbles}
 
--- what contracts see of a table
+-- a table as contracts see it
 abbrev pub half_table : Nibbles → HalfTable
 half_table nibbles = record { low = nibbles.low; high = nibbles.high }
 

@@ -1,4 +1,4 @@
-//! The scan by 32 bytes a turn.
+//! The scan by 32 bytes at a time.
 ghost use Rattle.std.specs.Prelude.{◌≡◌, ◌≢◌, ℕ, ◌+◌, ◌-◌, ◌<◌, ◌≤◌, slice_index, take};
 ghost use Rattle.literal_base.specs.Occurs.{IsValidSpan};
 ghost use Rattle.literal_fingerprints.specs.FingerprintsValue.{FingerprintsMayStop, NoneBegins, shared_buckets};
@@ -17,11 +17,12 @@ use literal_base::Span;
 use literal_base::count::Tally;
 use std::simd::prelude::*;
 
-/// If the low halves of the tables have at most this many bits, few places pass by these halves alone.
+/// If the low halves of the tables have at most this many bits, few offsets pass by these halves alone.
 const FEW_BITS: u32 = 60;
 
 impl Fingerprints {
-    /// Continues a scan from an offset before which all bytes of the span are looked up: `bytes` are the last of them.
+    /// Continues a scan from an offset. All bytes of the span before it are looked up, and `bytes` are the last of
+    /// them.
     #[inline(never)]
     pub(super) fn next_far(
         self,
@@ -57,7 +58,7 @@ impl Fingerprints {
         self.rest(last.before, haystack, last.at, span, tally)
     }
 
-    /// Whether few places pass by the low halves alone.
+    /// Whether few offsets pass by the low halves alone.
     #[inline(always)]
     pub(super) fn has_few_bits(&self) -> bool {
         let front = self.first.low_bits().wrapping_add(self.second.low_bits());
@@ -65,9 +66,9 @@ impl Fingerprints {
         front.wrapping_add(back) <= FEW_BITS
     }
 
-    /// Looks up bytes 32 at a time, as long as there are so many, or until a pattern may begin by its fingerprint. If
-    /// the low halves of the tables let few places pass, the high halves are looked up only where four bytes share a
-    /// bucket by the low ones. Each way has a loop of its own.
+    /// Looks up 32 bytes at a time, while there are as many, or until a pattern may begin by its fingerprint. If the
+    /// low halves of the tables let few offsets pass, the high halves are looked up only where four bytes share a
+    /// bucket by the low ones. Each of both cases has its own loop.
     #[inline(always)]
     fn pass_wide(
         &self,
@@ -142,8 +143,8 @@ impl Fingerprints {
         }
     }
 
-    /// How many of 32 bytes come before the first that ends four that share a bucket. The first three may lie in the 16
-    /// bytes before.
+    /// How many of 32 bytes come before the first that ends four bytes with a shared bucket. The first three of the
+    /// four may be in the 16 bytes before.
     #[inline(always)]
     fn zeros_before(&self, lows_first: bool, before: u8x32, here: u8x32) -> usize
         ensures few { result ≤ 32 }
@@ -159,7 +160,7 @@ impl Fingerprints {
         zeros_before_wide(both_wide(lows, self.highs(before, here)))
     }
 
-    /// For each of 32 bytes the buckets that four bytes share by their low halves, of which it is the last.
+    /// For each of 32 bytes, the buckets that it shares with the three bytes before, by the low halves.
     #[inline(always)]
     fn lows(&self, before: u8x32, here: u8x32) -> u8x32
         ensures { (text : ℕ → ℕ) → HasBack before text → HasWide here (λ k. text (16 + k))
@@ -172,7 +173,7 @@ impl Fingerprints {
         both_wide(both_wide(first, second), both_wide(third, fourth))
     }
 
-    /// The same by their high halves.
+    /// The same by the high halves.
     #[inline(always)]
     fn highs(&self, before: u8x32, here: u8x32) -> u8x32
         ensures { (text : ℕ → ℕ) → HasBack before text → HasWide here (λ k. text (16 + k))

@@ -6,30 +6,20 @@ use Rattle.std.proofs.Common.{append_assoc, Option, Some, None}
 use Rattle.std.proofs.Common.{nat_lt, take-append-drop}
 use Rattle.std.proofs.lemmas.Bool.{cases_lt, le-ltb, lt-ltb}
 use Rattle.std.proofs.lemmas.Bool.Decides.{nat_tests}
-use Rattle.std.proofs.lemmas.List.{drop-append-le, drop-drop, drop-take, take-append-le, take_all}
+use Rattle.std.proofs.lemmas.List.{drop-append-le, drop-take, take-append-le, take_all}
 use Rattle.std.proofs.Math.Seq.{drop-cons, take-append-add}
 use Rattle.std.proofs.lemmas.Slice.{drop-put_mid}
 use Rattle.std.specs.Bool.{MatchBool}
 use Rattle.std.specs.Io.KnownBytes.{Consumes, IsAtEnd, Keeps}
+use Rattle.literal_fingerprints.proofs.lemmas.Skipped.{part_behind}
+use Rattle.literal_search.proofs.lemmas.Prepared.{length_part}
 use Rattle.literal_folding.specs.Folding.{NoneGoesOver, folded}
 use Rattle.literal_folding.specs.Inside.Blocks.{bytes_behind_of, held, ready, rest_of}
 use Rattle.literal_folding.specs.declared.block.Block.{Block}
 use Rattle.literal_folding.proofs.lemmas.Chars.{shape}
 use Rattle.literal_folding.proofs.lemmas.Texts.{folded-append, folded-nil, length-folded, none_left, none_over}
 
-pub part_len : (xs : List ℕ) (start end : ℕ) → start ≤ end → end ≤ length xs
-    → length (slice_range xs start end) ≡ end - start
-part_len xs start end p q =
-    omega (arith, length-take (end - start) (drop start xs), length-drop start xs)
-
--- a part without its first bytes
-pub part_without : (xs : List ℕ) (start end n : ℕ) → start + n ≤ end
-    → slice_range xs (start + n) end ≡ drop n (slice_range xs start end)
-part_without xs start end n p =
-    let len : n + (end - (start + n)) ≡ end - start = omega arith in
-    grind (arith, drop-take, drop-drop)
-
--- the same once these were written
+-- a part without its first bytes, once these were written
 pub part_written : (xs written : List ℕ) (start end n : ℕ) → start + n ≤ end → end ≤ length xs → length written ≡ n
     → slice_range (take start xs ++ (written ++ post_of start (start + n - start) xs)) (start + n) end
     ≡ drop n (slice_range xs start end)
@@ -37,7 +27,7 @@ part_written xs written start end n p q len =
     let k : start + n - start ≡ n = omega arith in
     ap (take (end - (start + n))) (drop-put_mid start (start + n - start) xs written (start + n) (omega arith)
     (omega arith) (len ∙ sym k))
-    ∙ part_without xs start end n p
+    ∙ part_behind xs start end n p
 
 -- a text may be cut at the end if each of its last bytes begins no character that goes on
 pub none_over_end : (text more : List ℕ)
@@ -157,7 +147,8 @@ part_and_read xs written behind start end n p q r =
     ∙ drop-take start (end - start) xs in
     let rest : drop start (take end xs ++ (written ++ behind)) ≡ slice_range xs start end ++ (written ++ behind) =
     drop-append-le start (take end xs) (written ++ behind) (omega arith) ∙ ap (λ t. t ++ (written ++ behind)) first in
-    let size : (end + n) - start ≡ length (slice_range xs start end) + n = omega (arith, part_len xs start end p q) in
+    let size : (end + n) - start ≡ length (slice_range xs start end) + n =
+    omega (arith, length_part xs start end p q) in
     ap (take ((end + n) - start)) rest
     ∙ ap (λ k. take k (slice_range xs start end ++ (written ++ behind))) size
     ∙ take-append-add (slice_range xs start end) (written ++ behind) n

@@ -10,8 +10,8 @@ use crate::primitives::small_index::{SmallIndex, SmallIndexError, SmallIndexIter
 use std::fmt;
 use std::marker::Model;
 
-/// The identifier of a pattern: its place in the order in which the patterns were added, the first
-/// being 0. It is at most [`PatternID::MAX`]. Contracts see the number.
+/// The identifier of a pattern: its number in the order in which the patterns were added, from 0. It is at most
+/// [`PatternID::MAX`]. Contracts see the number.
 #[derive(Clone, Copy, PartialEq, Eq, PartialOrd, Ord, Hash)]
 pub struct PatternID {
     index: SmallIndex,
@@ -34,7 +34,7 @@ impl PatternID {
         index: SmallIndex::MAX,
     };
 
-    /// How many identifiers there are, 2147483647.
+    /// The number of identifiers, 2147483647.
     pub const LIMIT: usize = SmallIndex::LIMIT;
 
     /// The least identifier, that of the first pattern.
@@ -42,11 +42,10 @@ impl PatternID {
         index: SmallIndex::ZERO,
     };
 
-    /// How many bytes an identifier takes, 4.
+    /// The size of an identifier in bytes, 4.
     pub const SIZE: usize = SmallIndex::SIZE;
 
-    /// The identifier of this number. Any number above that of [`PatternID::MAX`] is refused, and
-    /// the error keeps it.
+    /// The identifier with this number. A number above [`PatternID::MAX`] is refused, and the error keeps it.
     pub fn new(value: usize) -> Result<PatternID, PatternIDError>
         ensures when { IsOk result ↔ (value < PatternID.LIMIT) }
         ensures id { IfOk result (λ id. id ≡ value) }
@@ -58,7 +57,7 @@ impl PatternID {
         }
     }
 
-    /// The identifier of this number, which has to be at most that of [`PatternID::MAX`].
+    /// The identifier with this number, which has to be at most [`PatternID::MAX`].
     pub fn must(value: usize) -> PatternID
         requires { value < PatternID.LIMIT }
         ensures { result ≡ value }
@@ -108,7 +107,7 @@ impl PatternID {
         self.index.one_more()
     }
 
-    /// The identifiers from 0 up to and not including `len`, which is at most [`PatternID::LIMIT`].
+    /// The identifiers from 0 to `len` - 1. `len` has to be at most [`PatternID::LIMIT`].
     pub fn iter(len: usize) -> PatternIDIter
         requires { len ≤ PatternID.LIMIT }
         ensures items { result ≡ range_with_len 0 len }
@@ -129,7 +128,7 @@ impl Default for PatternID {
     }
 }
 
-/// As `PatternID(5)`.
+/// Shown as `PatternID(5)`.
 impl fmt::Debug for PatternID {
     ghost debug_output = { λ id. Some (codes "PatternID(" ++ decimal id ++ codes ")") };
 
@@ -157,7 +156,7 @@ impl From<PatternID> for SmallIndex {
     }
 }
 
-/// The identifier of this number.
+/// The identifier with this number.
 impl From<u8> for PatternID {
     ghost from_gives = { λ value id. id ≡ value };
 
@@ -168,7 +167,7 @@ impl From<u8> for PatternID {
     }
 }
 
-/// As [`PatternID::new`].
+/// Like [`PatternID::new`].
 impl TryFrom<u16> for PatternID {
     type Error = PatternIDError;
 
@@ -179,7 +178,7 @@ impl TryFrom<u16> for PatternID {
     }
 }
 
-/// As [`PatternID::new`].
+/// Like [`PatternID::new`].
 impl TryFrom<u32> for PatternID {
     type Error = PatternIDError;
 
@@ -190,7 +189,7 @@ impl TryFrom<u32> for PatternID {
     }
 }
 
-/// As [`PatternID::new`].
+/// Like [`PatternID::new`].
 impl TryFrom<u64> for PatternID {
     type Error = PatternIDError;
 
@@ -201,7 +200,7 @@ impl TryFrom<u64> for PatternID {
     }
 }
 
-/// As [`PatternID::new`].
+/// Like [`PatternID::new`].
 impl TryFrom<usize> for PatternID {
     type Error = PatternIDError;
 
@@ -212,7 +211,7 @@ impl TryFrom<usize> for PatternID {
     }
 }
 
-/// A number above that of the greatest [`PatternID`]. Contracts see the number that was refused.
+/// The error for a number above [`PatternID::MAX`]. Contracts see the number that was refused.
 #[derive(Clone, Copy, Debug, PartialEq, Eq)]
 pub struct PatternIDError {
     refused: SmallIndexError,
@@ -237,7 +236,7 @@ impl PatternIDError {
     }
 }
 
-/// As `failed to create PatternID from 2147483647, which exceeds PatternID(2147483646)`.
+/// Shown as `failed to create PatternID from 2147483647, which exceeds PatternID(2147483646)`.
 impl fmt::Display for PatternIDError {
     ghost output = { λ error. Some (codes "failed to create PatternID from " ++ decimal error
         ++ codes ", which exceeds PatternID(2147483646)") };
@@ -253,7 +252,7 @@ impl fmt::Display for PatternIDError {
 
 impl std::error::Error for PatternIDError {}
 
-/// The identifiers below a length, in order. Contracts see the list of those that are left.
+/// An iterator over the identifiers below a length. Contracts see the list of those that are left.
 #[derive(Drop)]
 pub struct PatternIDIter {
     indices: SmallIndexIter,
@@ -279,7 +278,7 @@ impl Iterator for PatternIDIter {
     }
 }
 
-/// The elements of the slice in order, each with its place as an identifier. The slice has at most
+/// The elements of a slice in order, each with its index as an identifier. The slice has to have at most
 /// [`PatternID::LIMIT`] elements.
 #[tactic(auto, using(crate::proofs::lemmas::Counting::zip_range, crate::proofs::lemmas::Counting::zip_length))]
 pub fn with_pattern_ids<T>(items: &[T]) -> WithPatternIDIter<'_, T>
@@ -293,8 +292,7 @@ pub fn with_pattern_ids<T>(items: &[T]) -> WithPatternIDIter<'_, T>
     }
 }
 
-/// Elements that are borrowed from a slice, with identifiers. Contracts see the list of the pairs
-/// that are left.
+/// An iterator over borrowed elements with identifiers. Contracts see the list of the pairs that are left.
 #[derive(Drop)]
 pub struct WithPatternIDIter<'a, T> {
     items: std::slice::Iter<'a, T>,

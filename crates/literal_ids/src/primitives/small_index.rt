@@ -1,4 +1,4 @@
-//! Small indices, the numbers that identifiers are.
+//! Small indices, which identifiers are made of.
 ghost use Rattle.std.specs.Prelude.{◌≡◌, ◌+◌, ◌++◌, ◌<◌, ◌≤◌, ◌↔◌, pos, length, IsOk, IfOk, IfErr, Some, codes};
 ghost use Rattle.std.specs.Fmt.{decimal};
 ghost use Rattle.std.specs.Iterator.{YieldsFirst, item_count};
@@ -33,17 +33,16 @@ impl SmallIndex {
     /// count of all indices, fit an `i32`.
     pub const MAX: SmallIndex = SmallIndex { value: 2147483646 };
 
-    /// How many indices there are, 2147483647.
+    /// The number of indices, 2147483647.
     pub const LIMIT: usize = 2147483647;
 
     /// The least index.
     pub const ZERO: SmallIndex = SmallIndex { value: 0 };
 
-    /// How many bytes an index takes, 4.
+    /// The size of an index in bytes, 4.
     pub const SIZE: usize = size_of::<SmallIndex>();
 
-    /// The index of this number. Any number above that of [`SmallIndex::MAX`] is refused, and the
-    /// error keeps it.
+    /// The index with this number. A number above [`SmallIndex::MAX`] is refused, and the error keeps it.
     pub fn new(value: usize) -> Result<SmallIndex, SmallIndexError>
         ensures when { IsOk result ↔ (value < SmallIndex.LIMIT) }
         ensures id { IfOk result (λ index. index ≡ value) }
@@ -58,7 +57,7 @@ impl SmallIndex {
         }
     }
 
-    /// The index of this number, which has to be at most that of [`SmallIndex::MAX`].
+    /// The index with this number, which has to be at most [`SmallIndex::MAX`].
     pub fn must(value: usize) -> SmallIndex
         requires { value < SmallIndex.LIMIT }
         ensures { result ≡ value }
@@ -118,7 +117,7 @@ impl Default for SmallIndex {
     }
 }
 
-/// As `SmallIndex(5)`.
+/// Shown as `SmallIndex(5)`.
 impl fmt::Debug for SmallIndex {
     ghost debug_output = { λ index. Some (codes "SmallIndex(" ++ decimal index ++ codes ")") };
 
@@ -128,7 +127,7 @@ impl fmt::Debug for SmallIndex {
     }
 }
 
-/// The index of this number.
+/// The index with this number.
 impl From<u8> for SmallIndex {
     ghost from_gives = { λ value index. index ≡ value };
 
@@ -139,7 +138,7 @@ impl From<u8> for SmallIndex {
     }
 }
 
-/// As [`SmallIndex::new`].
+/// Like [`SmallIndex::new`].
 impl TryFrom<u16> for SmallIndex {
     type Error = SmallIndexError;
 
@@ -150,7 +149,7 @@ impl TryFrom<u16> for SmallIndex {
     }
 }
 
-/// As [`SmallIndex::new`].
+/// Like [`SmallIndex::new`].
 impl TryFrom<u32> for SmallIndex {
     type Error = SmallIndexError;
 
@@ -161,7 +160,7 @@ impl TryFrom<u32> for SmallIndex {
     }
 }
 
-/// As [`SmallIndex::new`].
+/// Like [`SmallIndex::new`].
 impl TryFrom<u64> for SmallIndex {
     type Error = SmallIndexError;
 
@@ -172,7 +171,7 @@ impl TryFrom<u64> for SmallIndex {
     }
 }
 
-/// As [`SmallIndex::new`].
+/// Like [`SmallIndex::new`].
 impl TryFrom<usize> for SmallIndex {
     type Error = SmallIndexError;
 
@@ -183,7 +182,7 @@ impl TryFrom<usize> for SmallIndex {
     }
 }
 
-/// A number above that of the greatest [`SmallIndex`]. Contracts see the number that was refused.
+/// The error for a number above [`SmallIndex::MAX`]. Contracts see the number that was refused.
 #[derive(Clone, Copy, Debug, PartialEq, Eq)]
 pub struct SmallIndexError {
     attempted: u64,
@@ -208,7 +207,7 @@ impl SmallIndexError {
     }
 }
 
-/// As `failed to create small index from 2147483647, which exceeds SmallIndex(2147483646)`.
+/// Shown as `failed to create small index from 2147483647, which exceeds SmallIndex(2147483646)`.
 impl fmt::Display for SmallIndexError {
     ghost output = { λ error. Some (codes "failed to create small index from " ++ decimal error
         ++ codes ", which exceeds SmallIndex(2147483646)") };
@@ -224,7 +223,7 @@ impl fmt::Display for SmallIndexError {
 
 impl std::error::Error for SmallIndexError {}
 
-/// The indices below a length, in order. Contracts see the list of those that are left.
+/// An iterator over the indices below a length. Contracts see the list of those that are left.
 #[derive(Drop)]
 pub struct SmallIndexIter {
     range: Range<usize>,
@@ -242,7 +241,7 @@ impl Model for SmallIndexIter {
 }
 
 impl SmallIndexIter {
-    /// The indices from 0 up to and not including `len`, which is at most [`SmallIndex::LIMIT`].
+    /// The indices from 0 to `len` - 1. `len` has to be at most [`SmallIndex::LIMIT`].
     #[tactic(auto, using(crate::proofs::lemmas::Counting::range_length))]
     pub fn new(len: usize) -> SmallIndexIter
         requires { len ≤ SmallIndex.LIMIT }

@@ -10,8 +10,8 @@ use crate::primitives::small_index::{SmallIndex, SmallIndexError, SmallIndexIter
 use std::fmt;
 use std::marker::Model;
 
-/// The identifier of a state of an automaton, whose states are numbered from 0. It is at most
-/// [`StateID::MAX`]. Contracts see the number.
+/// The identifier of a state of an automaton. States are numbered from 0. It is at most [`StateID::MAX`]. Contracts see
+/// the number.
 #[derive(Clone, Copy, PartialEq, Eq, PartialOrd, Ord, Hash)]
 pub struct StateID {
     index: SmallIndex,
@@ -34,7 +34,7 @@ impl StateID {
         index: SmallIndex::MAX,
     };
 
-    /// How many identifiers there are, 2147483647.
+    /// The number of identifiers, 2147483647.
     pub const LIMIT: usize = SmallIndex::LIMIT;
 
     /// The least identifier.
@@ -42,11 +42,10 @@ impl StateID {
         index: SmallIndex::ZERO,
     };
 
-    /// How many bytes an identifier takes, 4.
+    /// The size of an identifier in bytes, 4.
     pub const SIZE: usize = SmallIndex::SIZE;
 
-    /// The identifier of this number. Any number above that of [`StateID::MAX`] is refused, and
-    /// the error keeps it.
+    /// The identifier with this number. A number above [`StateID::MAX`] is refused, and the error keeps it.
     pub fn new(value: usize) -> Result<StateID, StateIDError>
         ensures when { IsOk result ↔ (value < StateID.LIMIT) }
         ensures id { IfOk result (λ id. id ≡ value) }
@@ -58,7 +57,7 @@ impl StateID {
         }
     }
 
-    /// The identifier of this number, which has to be at most that of [`StateID::MAX`].
+    /// The identifier with this number, which has to be at most [`StateID::MAX`].
     pub fn must(value: usize) -> StateID
         requires { value < StateID.LIMIT }
         ensures { result ≡ value }
@@ -108,7 +107,7 @@ impl StateID {
         self.index.one_more()
     }
 
-    /// The identifiers from 0 up to and not including `len`, which is at most [`StateID::LIMIT`].
+    /// The identifiers from 0 to `len` - 1. `len` has to be at most [`StateID::LIMIT`].
     pub fn iter(len: usize) -> StateIDIter
         requires { len ≤ StateID.LIMIT }
         ensures items { result ≡ range_with_len 0 len }
@@ -129,7 +128,7 @@ impl Default for StateID {
     }
 }
 
-/// As `StateID(5)`.
+/// Shown as `StateID(5)`.
 impl fmt::Debug for StateID {
     ghost debug_output = { λ id. Some (codes "StateID(" ++ decimal id ++ codes ")") };
 
@@ -157,7 +156,7 @@ impl From<StateID> for SmallIndex {
     }
 }
 
-/// The identifier of this number.
+/// The identifier with this number.
 impl From<u8> for StateID {
     ghost from_gives = { λ value id. id ≡ value };
 
@@ -168,7 +167,7 @@ impl From<u8> for StateID {
     }
 }
 
-/// As [`StateID::new`].
+/// Like [`StateID::new`].
 impl TryFrom<u16> for StateID {
     type Error = StateIDError;
 
@@ -179,7 +178,7 @@ impl TryFrom<u16> for StateID {
     }
 }
 
-/// As [`StateID::new`].
+/// Like [`StateID::new`].
 impl TryFrom<u32> for StateID {
     type Error = StateIDError;
 
@@ -190,7 +189,7 @@ impl TryFrom<u32> for StateID {
     }
 }
 
-/// As [`StateID::new`].
+/// Like [`StateID::new`].
 impl TryFrom<u64> for StateID {
     type Error = StateIDError;
 
@@ -201,7 +200,7 @@ impl TryFrom<u64> for StateID {
     }
 }
 
-/// As [`StateID::new`].
+/// Like [`StateID::new`].
 impl TryFrom<usize> for StateID {
     type Error = StateIDError;
 
@@ -212,7 +211,7 @@ impl TryFrom<usize> for StateID {
     }
 }
 
-/// A number above that of the greatest [`StateID`]. Contracts see the number that was refused.
+/// The error for a number above [`StateID::MAX`]. Contracts see the number that was refused.
 #[derive(Clone, Copy, Debug, PartialEq, Eq)]
 pub struct StateIDError {
     refused: SmallIndexError,
@@ -237,7 +236,7 @@ impl StateIDError {
     }
 }
 
-/// As `failed to create StateID from 2147483647, which exceeds StateID(2147483646)`.
+/// Shown as `failed to create StateID from 2147483647, which exceeds StateID(2147483646)`.
 impl fmt::Display for StateIDError {
     ghost output = { λ error. Some (codes "failed to create StateID from " ++ decimal error
         ++ codes ", which exceeds StateID(2147483646)") };
@@ -253,7 +252,7 @@ impl fmt::Display for StateIDError {
 
 impl std::error::Error for StateIDError {}
 
-/// The identifiers below a length, in order. Contracts see the list of those that are left.
+/// An iterator over the identifiers below a length. Contracts see the list of those that are left.
 #[derive(Drop)]
 pub struct StateIDIter {
     indices: SmallIndexIter,
@@ -279,7 +278,7 @@ impl Iterator for StateIDIter {
     }
 }
 
-/// The elements of the slice in order, each with its place as an identifier. The slice has at most
+/// The elements of a slice in order, each with its index as an identifier. The slice has to have at most
 /// [`StateID::LIMIT`] elements.
 #[tactic(auto, using(crate::proofs::lemmas::Counting::zip_range, crate::proofs::lemmas::Counting::zip_length))]
 pub fn with_state_ids<T>(items: &[T]) -> WithStateIDIter<'_, T>
@@ -293,8 +292,7 @@ pub fn with_state_ids<T>(items: &[T]) -> WithStateIDIter<'_, T>
     }
 }
 
-/// Elements that are borrowed from a slice, with identifiers. Contracts see the list of the pairs
-/// that are left.
+/// An iterator over borrowed elements with identifiers. Contracts see the list of the pairs that are left.
 #[derive(Drop)]
 pub struct WithStateIDIter<'a, T> {
     items: std::slice::Iter<'a, T>,

@@ -6,12 +6,12 @@ use Rattle.literal_packed.specs.PatternsValue.{IsInOrder}
 use Rattle.literal_packed.specs.BuilderValue.{BuilderValue}
 use Rattle.literal_packed.specs.State.{state_of}
 
--- what a caller sees of a `Builder`
+-- a `Builder` as callers see it
 abbrev pub builder_value : Inside → BuilderValue
 builder_value a = record { config = a.config; state = if a.inert then None else Some a.patterns.patterns }
 
--- what the fields of a `Builder` keep: an inert one has dropped its patterns, and the others may be kept and are in
--- order
+-- the invariant of a `Builder`: an inert one has dropped its patterns; the patterns of any other may be kept, and are
+-- in order
 pub record IsSound (a : Inside) : Type 0 where
   pub emptied : a.inert ≡ true → a.patterns.patterns ≡ []
   pub allowed : state_of a.config.pattern_limit a.patterns.patterns ≡ Some a.patterns.patterns

@@ -9,7 +9,7 @@ use Rattle.literal_base.specs.Occurs.{pattern_at}
 abbrev pub bytes_of : {A : Type 0} → List (Vec ℕ A) → List (List ℕ)
 bytes_of vectors = map (λ v. v.items) vectors
 
--- the comparison by which patterns are sorted: longer first, and by their identifiers where the lengths are equal
+-- the comparison by which patterns are sorted: longer ones first, and those of equal length by their identifiers
 abbrev pub longest_cmp : List (List ℕ) → ℕ → ℕ → Ordering
 longest_cmp patterns i j =
     ordering_then (nat_cmp (length (pattern_at patterns j)) (length (pattern_at patterns i))) (nat_cmp i j)

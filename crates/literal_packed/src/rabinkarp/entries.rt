@@ -1,5 +1,4 @@
-//! The entries of all buckets. What holds them is private here, so that nobody reads one but by `entry`, which
-//! counts it.
+//! The entries of all buckets. Its fields are private here, so that entries are read only by `entry`, which counts.
 ghost use Rattle.std.specs.Prelude.{◌≡◌, ◌≢◌, ◌↔◌, ◌≤◌, ◌<◌, ◌+◌, ◌%◌, ℕ, List, [], ◌∷◌, ◌++◌, length, map, replicate};
 ghost use Rattle.std.specs.Prelude.{nat_lt, if◌then◌else◌};
 ghost use Rattle.std.specs.Prelude.{IfOk, IsTrue, Some, slice_get, slice_index_or};
@@ -13,16 +12,16 @@ use literal_ids::PatternID;
 use std::alloc::AllocError;
 use std::marker::Model;
 
-/// How many buckets there are, as in the original: a power of two, so that a sum's bucket is its last bits, and as many
-/// as a word has bits, so that one tells of each.
+/// The number of buckets, as in the original. It is a power of two, so that the last bits of a sum are its bucket; and
+/// a word has as many bits, so that it has a bit for each bucket.
 pub const BUCKETS: usize = 64;
 
 /// The entries of all buckets, a sum and an identifier each. Contracts see the list of the entries of each bucket.
 ///
-/// All stand in one list, bucket after bucket: those of bucket `k` from `starts[k]` up to `starts[k + 1]`. The first
-/// two of each bucket stand in `firsts` and `seconds` too, so that a look-up may ask for them without asking whether
-/// they are there: where bucket `k` has no such entry stands one with the sum `k + 1`, which is no sum of that
-/// bucket. Bit `k` of `longer` says whether it has more. `single` says whether no bucket has a second one.
+/// All entries are in one list, bucket after bucket: those of bucket `k` from index `starts[k]` up to `starts[k + 1]`.
+/// The first two of each bucket are also in `firsts` and `seconds`, so that a look-up need not test whether there are
+/// any. If bucket `k` has no such entry, there is one with the sum `k + 1`, which is no sum of this bucket. Bit `k` of
+/// `longer` says whether the bucket has more than two. `single` says whether no bucket has a second one.
 #[derive(Drop)]
 pub struct BucketEntries {
     firsts: [(usize, PatternID); BUCKETS],
@@ -45,7 +44,7 @@ impl Model for BucketEntries {
 }
 
 impl BucketEntries {
-    /// The entries of a list by their buckets, in its order. It takes memory for the sort.
+    /// Puts the entries of a list into their buckets, in the order of the list. The sort takes memory.
     pub fn new(mut list: Vec<(usize, PatternID)>) -> Result<BucketEntries, AllocError>
         ensures { IfOk result (AreBucketsOf list.items) }
     {
@@ -62,7 +61,7 @@ impl BucketEntries {
         })
     }
 
-    /// A copy. It takes memory for the list; where that is refused there is no copy, and this stays as it is.
+    /// A copy. It takes memory for the list. If that is refused there is no copy, and this is unchanged.
     pub fn try_clone(&self) -> Result<BucketEntries, AllocError>
         ensures { IfOk result (λ copy. copy ≡ self.now) }
     {
@@ -77,7 +76,7 @@ impl BucketEntries {
         })
     }
 
-    /// How many entries a bucket has.
+    /// The number of entries of a bucket.
     pub fn len(&self, bucket: usize) -> usize
         requires { bucket < BUCKETS }
         ensures { result ≡ length (slice_index_or self.now bucket []) }
@@ -100,8 +99,8 @@ impl BucketEntries {
         self.single
     }
 
-    /// Reads one entry of a bucket, and counts it. The first two of a bucket may be asked for where it has none: then
-    /// nothing counts, and the sum that is answered is no sum of the bucket.
+    /// Reads one entry of a bucket, and counts it. The first two may be read even if the bucket has fewer: then nothing
+    /// is counted, and the sum in the answer is no sum of the bucket.
     pub fn entry(&self, bucket: usize, k: usize, tally: &mut Tally) -> (usize, PatternID)
         requires is_bucket { bucket < BUCKETS }
         requires within { 2 ≤ k → k < length (slice_index_or self.now bucket []) }
@@ -123,7 +122,7 @@ impl BucketEntries {
     }
 }
 
-/// Where each bucket begins in a list that is sorted by bucket and, last, where the list ends.
+/// The index at which each bucket begins in a list that is sorted by bucket, and last the length of the list.
 fn starts_of(list: &[(usize, PatternID)]) -> [usize; BUCKETS + 1]
     requires { IsNonDecreasingBy bucket_number list.now }
     ensures { AreStarts result list.now }
@@ -135,8 +134,8 @@ fn starts_of(list: &[(usize, PatternID)]) -> [usize; BUCKETS + 1]
     starts
 }
 
-/// Entry `i` of each bucket. Where bucket `k` has no such entry stands one with the sum `k + 1`, which is no sum of
-/// that bucket.
+/// Entry `i` of each bucket. If bucket `k` has no such entry, there is one with the sum `k + 1`, which is no sum of
+/// this bucket.
 fn heads_of(
     starts: &[usize; BUCKETS + 1],
     list: &[(usize, PatternID)],
@@ -157,7 +156,7 @@ fn heads_of(
     heads
 }
 
-/// The buckets that have more than two entries, as bits.
+/// The buckets with more than two entries, as bits.
 fn longer_of(starts: &[usize; BUCKETS + 1]) -> u64
     ensures { AreLonger starts.now result }
 {
@@ -182,8 +181,8 @@ fn single_of(starts: &[usize; BUCKETS + 1]) -> bool
     true
 }
 
-/// Where the entries of three patterns stand, worked out by hand: `ab`, `ba` and `ab` have the sums 292, 293 and 292,
-/// of the buckets 36 and 37.
+/// The layout of the entries of three patterns, computed by hand: `ab`, `ba` and `ab` have the sums 292, 293 and 292,
+/// in the buckets 36 and 37.
 fn worked_layout()
     ensures { (starts : List ℕ) (entries : List (ℕ × ℕ)) → AreStarts starts entries
         → AreBucketsOf ((292, 0) ∷ (293, 1) ∷ (292, 2) ∷ []) (entry_buckets starts entries)

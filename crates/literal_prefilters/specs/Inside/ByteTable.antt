@@ -3,8 +3,8 @@ use Rattle.std.specs.Prelude.{◌≡◌, ◌*◌, ◌≤◌, length}
 use Rattle.literal_prefilters.specs.declared.prefilter.byte_table.ByteTable.TheInside.{Inside}
 use Rattle.literal_prefilters.specs.Table.{size, rank_sum_of, AreDistances}
 
--- what the fields keep: a table of one to three bytes, with their number, the sum of their ranks, and distances of at
--- most 254
+-- the invariant of the fields: a table of one to three bytes, with their number, the sum of their ranks, and distances
+-- of at most 254
 pub record IsByteTable (t : Inside) : Type 0 where
   pub whole : length t.distances ≡ 256
   pub counted : t.count ≡ size t.distances

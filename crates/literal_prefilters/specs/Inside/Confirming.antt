@@ -1,4 +1,4 @@
--- The fields of a confirming search, and what one by a table keeps between two search.
+-- The fields of a confirming search, and what a search by a table keeps between two searches.
 use Rattle.std.specs.Prelude.{◌≡◌, ⊤, ℕ, ◌+◌, ◌<◌, ◌≤◌, false, List, [], ◌∷◌, Option, None, Some, IfSome, slice_index}
 use Rattle.literal_base.specs.Occurs.{NoneIsEmpty}
 use Rattle.literal_packed.specs.PatternsValue.{IsInOrder, query_of}
@@ -9,7 +9,7 @@ use Rattle.literal_prefilters.specs.declared.prefilter.confirming.Strategy.TheVa
 use Rattle.literal_prefilters.specs.declared.prefilter.byte_table.TableByte.{TableByte}
 use Rattle.literal_prefilters.specs.Table.{distance_of, is_in}
 
--- what a caller sees of a `ConfirmingSearch`, by how it goes
+-- a `ConfirmingSearch` as callers see it, from its strategy
 abbrev pub value_of_strategy : Strategy → ConfirmingValue
 value_of_strategy (Memmem pattern kind) = record {
   query = record { kind = kind; patterns = pattern ∷ [] };
@@ -26,20 +26,20 @@ AreTriedInOrder (Memmem pattern kind) = ⊤
 AreTriedInOrder (Packed query) = ⊤
 AreTriedInOrder (Table search) = IsInOrder search.patterns
 
--- what the fields of a `ConfirmingSearch` keep
+-- the invariant of a `ConfirmingSearch`
 pub record IsReady (strategy : Strategy) : Type 0 where
   pub covered : CoveredBy (value_of_strategy strategy).prefilter (value_of_strategy strategy).query
       (value_of_strategy strategy).ignore_case
   pub not_empty : NoneIsEmpty (value_of_strategy strategy).query.patterns
   pub in_order : AreTriedInOrder strategy
 
--- up to where the haystack was read, by the last byte of the table that was found
+-- the offset up to which the haystack was read, from the last table byte that was found
 abbrev pub read_to : ℕ → Option TableByte → ℕ
 read_to start None = start
 read_to start (Some found) = found.place + 1
 
--- the byte that is kept is the first of the table from a place on, unless it stands before that place, and then all up
--- to the place was read
+-- the kept byte is the first table byte from an offset on. Or it is before that offset, and all up to the offset was
+-- read
 pub record IsKept (table : List (Option ℕ)) (haystack : List ℕ) (start at end : ℕ) (kept : Option TableByte) : Type 0
   where
     pub after_start : start ≤ at

@@ -5,7 +5,7 @@ use Rattle.literal_prefilters.specs.declared.prefilter.counted_set.CountedSet.Th
 use Rattle.literal_prefilters.specs.Table.{size, rank_sum_of}
 use Rattle.literal_prefilters.specs.Tables.{of_set}
 
--- what the fields keep: the number of the bytes of the set, and the sum of their ranks, each of which is a byte
+-- the invariant of the fields: the number of the bytes of the set, and the sum of their ranks, each of which is a byte
 pub record IsCounted (s : Inside) : Type 0 where
   pub counted : s.count ≡ size (of_set (contains s.set))
   pub ranked : s.rank_sum ≡ rank_sum_of (of_set (contains s.set))

@@ -13,7 +13,7 @@ use Rattle.literal_prefilters.specs.Inside.Running.{IsRunning}
 use Rattle.literal_prefilters.specs.PrefilterBuilderValue.{PrefilterBuilderValue, prefilter_limit}
 use Rattle.literal_prefilters.specs.PrefilterValue.{PrefilterValue, by_table, by_memmem, by_packed}
 
--- what a caller sees of a `Prefilter`, whichever of the eight kinds it is
+-- a `Prefilter` as callers see it, for each of the eight kinds
 abbrev pub value_of_finder : Finder → PrefilterValue
 value_of_finder (Memmem pre) = by_memmem pre
 value_of_finder (Packed pre) = by_packed pre
@@ -24,7 +24,7 @@ value_of_finder (RareBytesOne pre) = by_table pre
 value_of_finder (RareBytesTwo pre) = by_table pre
 value_of_finder (RareBytesThree pre) = by_table pre
 
--- what a caller sees of a prefilter's `Builder`
+-- a prefilter's `Builder` as callers see it
 abbrev pub builder_value : Inside → PrefilterBuilderValue
 builder_value b = record {
   kind = b.kind;
@@ -32,8 +32,8 @@ builder_value b = record {
   state = if b.enabled then Some b.patterns.patterns else None;
 }
 
--- what the fields of a prefilter's `Builder` keep: a disabled one has dropped its patterns, the others may be kept and
--- are in order, and the running state is that of the patterns
+-- the invariant of a prefilter's `Builder`: a disabled one has dropped its patterns; the patterns of any other may be
+-- kept and are in order, and the running data are those of the patterns
 pub record IsSound (b : Inside) : Type 0 where
   pub emptied : b.enabled ≡ false → b.patterns.patterns ≡ []
   pub allowed : state_of prefilter_limit b.patterns.patterns ≡ Some b.patterns.patterns

@@ -1,4 +1,4 @@
-//! A table of a few bytes, and the search for the first of them.
+//! A table of a few bytes, and the search for the first of them in a haystack.
 ghost use Rattle.std.specs.List.{All};
 ghost use Rattle.std.specs.Prelude.{◌≡◌, ◌+◌, ◌≤◌, ℕ, Some, IfSome, option_map, slice_index};
 ghost use Rattle.literal_base.specs.Bytes.{contains};
@@ -18,12 +18,12 @@ use literal_base::search::Span;
 use literal_packed::pattern::Patterns;
 use std::marker::Model;
 
-/// How many bytes a table has at most.
+/// The largest number of bytes in a table.
 pub(super) const MOST_BYTES: usize = 3;
 
-/// A table of one to three bytes, each with a *distance*: from a place of the byte in a haystack, how
-/// many bytes further back an occurrence with it may begin, at most 254. Contracts see the distance
-/// of each of the 256 bytes, if it is in the table.
+/// A table of one to three bytes, each with a *distance*: the largest number of bytes before the byte at which an
+/// occurrence with it may begin, at most 254. Contracts see the distance of each of the 256 bytes, if it is in the
+/// table.
 ///
 /// ```rust
 /// let mut patterns = Patterns::new(alloc);
@@ -54,7 +54,7 @@ impl Model for ByteTable {
     ghost invariant = { IsByteTable };
 }
 
-/// A byte of a table in a haystack.
+/// A table byte in a haystack.
 #[derive(Clone, Copy, Drop)]
 pub(super) struct TableByte {
     pub(super) place: usize,
@@ -62,9 +62,8 @@ pub(super) struct TableByte {
 }
 
 impl ByteTable {
-    /// The table of the bytes with which the patterns begin, each with the distance 0; in both cases
-    /// where ASCII case is ignored. There is one where these are one to three bytes, all at most
-    /// 0x7F.
+    /// The table of the first bytes of the patterns, each with the distance 0, and in both cases if ASCII case is
+    /// ignored. It exists if these are one to three bytes, all at most 0x7F.
     pub fn start(patterns: &Patterns, ignore_case: bool) -> Option<ByteTable>
         ensures table { result ≡ start_table ignore_case patterns.now.patterns }
         ensures none_back { IfSome result (λ t. reach_of t ≡ 0) }
@@ -73,12 +72,11 @@ impl ByteTable {
         Running::of(patterns, ignore_case).start_table()
     }
 
-    /// The table of a rare byte of each pattern, in both cases where ASCII case is ignored. The
-    /// patterns are taken by rising identifier: one that holds a byte taken before adds none,
-    /// another adds its byte of least rank, the earliest of equal rank. The distance of a byte is
-    /// the largest offset at which it stands in any pattern, in either case where case is ignored.
-    /// There is one where there is a pattern, each has at most 255 bytes, and these are at most
-    /// three bytes.
+    /// The table of a rare byte of each pattern, in both cases if ASCII case is ignored. The patterns are visited by
+    /// ascending identifier. A pattern that has a byte of the table adds none; any other adds its byte of least rank,
+    /// the first of equal ones. The distance of a byte is the largest offset at which it is in any pattern, in either
+    /// case if case is ignored. The table exists if there is a pattern, each pattern has at most 255 bytes, and these
+    /// are at most three bytes.
     pub fn rare(patterns: &Patterns, ignore_case: bool) -> Option<ByteTable>
         ensures table { result ≡ rare_table ignore_case patterns.now.patterns }
         ensures covers { IfSome result (λ t. All (Covers t ignore_case) patterns.now.patterns) }
@@ -86,8 +84,7 @@ impl ByteTable {
         Running::of(patterns, ignore_case).rare_table()
     }
 
-    /// The table of the bytes with which patterns begin, where these are one to three bytes, all at
-    /// most 0x7F.
+    /// The table of the first bytes of patterns, if these are one to three bytes, all at most 0x7F.
     pub(super) fn of_start_bytes(set: &CountedSet) -> Option<ByteTable>
         ensures { result ≡ if_low (of_set (contains set.now)) }
     {
@@ -112,7 +109,7 @@ impl ByteTable {
         })
     }
 
-    /// A copy, of the same distances.
+    /// A copy with the same distances.
     pub(super) fn copy(&self) -> ByteTable
         ensures { result ≡ self.now }
     {
@@ -133,7 +130,7 @@ impl ByteTable {
         self.count
     }
 
-    /// The sum of the ranks of its bytes, at most 765: the higher, the more common its bytes are.
+    /// The sum of the ranks of its bytes, at most 765. A higher sum means more common bytes.
     pub fn rank_sum(&self) -> u16
         ensures rank_sum { result ≡ rank_sum_of self.now }
         ensures low { result ≤ 765 }
@@ -141,7 +138,7 @@ impl ByteTable {
         self.rank_sum
     }
 
-    /// The distance of a byte, at most 254, and `None` where the byte is not in the table.
+    /// The distance of a byte, at most 254, or `None` if the byte is not in the table.
     pub fn distance(&self, byte: u8) -> Option<u8>
         ensures value { result ≡ distance_of self.now byte }
         ensures near { IfSome result (λ d. d ≤ 254) }
@@ -149,9 +146,8 @@ impl ByteTable {
         self.distances[byte as usize]
     }
 
-    /// The first place of the span whose byte is in the table. The span has to be a valid span of the
-    /// haystack. Each byte from the span's start up to and including that place is scanned, or the
-    /// whole span where there is none.
+    /// The first offset of the span whose byte is in the table. The span has to be a valid span of the haystack. Each
+    /// byte from the span's start up to and including this offset is scanned, or the whole span if there is none.
     pub fn scan(&self, haystack: &[u8], span: Span, tally: &mut Tally) -> Option<usize>
         requires { IsValidSpan haystack.now span }
         ensures place { result ≡ first_place self.now haystack.now span }
@@ -161,7 +157,7 @@ impl ByteTable {
         Some(found.place)
     }
 
-    /// The first place of the span whose byte is in the table, with the byte's distance.
+    /// The first offset of the span whose byte is in the table, with the byte's distance.
     pub(super) fn find(&self, haystack: &[u8], span: Span, tally: &mut Tally) -> Option<TableByte>
         requires { IsValidSpan haystack.now span }
         ensures place { option_map (λ f. f.place) result ≡ first_place self.now haystack.now span }
@@ -179,8 +175,8 @@ impl ByteTable {
         None
     }
 
-    /// A place before which nothing that the table covers begins in the span: the first place of a
-    /// byte of the table less that byte's distance, and at least the span's start.
+    /// An offset before which no covered pattern begins in the span: the offset of the first table byte minus the
+    /// byte's distance, but at least the span's start.
     pub(crate) fn candidate(&self, haystack: &[u8], span: Span, tally: &mut Tally) -> Candidate
         requires { IsValidSpan haystack.now span }
         ensures sound { PassesOverNone (CoversAll self.now) haystack.now span result }

@@ -1,4 +1,4 @@
-//! The confirming search: a prefilter proposes places, and the patterns are compared there.
+//! The confirming search: a prefilter proposes offsets, and the patterns are compared there.
 ghost use Rattle.std.specs.Prelude.{◌≡◌, ◌+◌, ◌-◌, ◌*◌, ◌≤◌, length, take, is_some, slice_index, Some};
 ghost use Rattle.std.specs.Prelude.{IfOk, OnErr, IfSome, IsTrue, MatchOption, option_map, None, ◌++◌, ◌∷◌, []};
 ghost use Rattle.std.specs.List.{All};
@@ -30,8 +30,8 @@ use literal_packed::pattern::Patterns;
 use std::alloc::{AllocError, Global};
 use std::marker::Model;
 
-/// The first in match order of the patterns that stand at a place and end in the span. The place lies in
-/// it, or is its end.
+/// The first pattern in match order that occurs at an offset and ends in the span. The offset is in the span, or is its
+/// end.
 fn best_at(
     patterns: &Patterns,
     ignore_case: bool,
@@ -59,14 +59,13 @@ fn best_at(
     None
 }
 
-/// The leftmost match in the span, by a prefilter of any kind: it is asked for a candidate, the
-/// patterns are compared at the place that it proposes, and where none stands there it is asked again
-/// from the next place on. The span has to be a valid span of the haystack, the patterns in the order
-/// of their match kind, as they are after [`Patterns::set_match_kind`], and the prefilter has to cover
-/// them for that kind, with ASCII case ignored or not.
+/// The leftmost match in the span, by a prefilter of any kind. The prefilter is asked for a candidate, and the patterns
+/// are compared at the offset that it proposes. If none is there, it is asked again from the next offset on. The span
+/// has to be a valid span of the haystack. The patterns have to be in match order, as after
+/// [`Patterns::set_match_kind`]. The prefilter has to cover them for their match kind, with ASCII case ignored or kept.
 ///
-/// At most as many places are tried as the span has bytes. At most as many bytes are scanned as the
-/// span has, and for each place tried as many more as the prefilter may read past it.
+/// At most as many offsets are tried as the span has bytes. At most as many bytes are scanned as the span has, plus,
+/// for each offset tried, as many as the prefilter may read after it.
 ///
 /// ```rust
 /// let mut builder = prefilter::Builder::new(alloc, MatchKind::LeftmostFirst);
@@ -116,8 +115,8 @@ pub fn confirm<P: PrefilterI>(
     }
 }
 
-/// The first byte of the table in the rest of a span that begins at `start`: the one that is kept, if
-/// it lies there. Bytes that were read before it are not read again.
+/// The first table byte in the rest of a span that begins at `start`: the kept one, if it is there. Bytes that were
+/// read before it are not read again.
 fn next_byte(
     table: &ByteTable,
     haystack: &[u8],
@@ -139,8 +138,8 @@ fn next_byte(
     }
 }
 
-/// The leftmost match in the span, by a table that covers the patterns. Each byte is scanned at most
-/// once, and only places near a byte of the table are tried.
+/// The leftmost match in the span, by a table that covers the patterns. Each byte is scanned at most once, and only
+/// offsets near a table byte are tried.
 fn confirm_by_table(
     table: &ByteTable,
     patterns: &Patterns,
@@ -156,7 +155,7 @@ fn confirm_by_table(
     ensures exact { tally.new
         ≡ counts_after_tries tally.old table.now (query_of patterns.now) haystack.now span result }
 
-    // What follows of the counts for whoever adds up searches.
+    // Consequences for the counts, for functions that add up searches.
     ensures within { tally.new.scanned ≤ tally.old.scanned + (answer_end span result - span.start) }
     ensures compared { tally.new.compared ≤ tally.old.compared
         + (tally.new.tried - tally.old.tried) * length patterns.now.patterns }
@@ -186,8 +185,8 @@ fn confirm_by_table(
     None
 }
 
-/// Searches for patterns by the prefilter that suits them. Contracts see the patterns, whether case is
-/// ignored, and what the prefilter goes by.
+/// Searches for patterns by the prefilter that suits them. Contracts see the patterns, whether case is ignored, and how
+/// the prefilter searches.
 ///
 /// ```rust
 /// let (kind, words) = (packed::MatchKind::LeftmostFirst, [b"watson".as_slice()]);
@@ -202,16 +201,16 @@ pub struct ConfirmingSearch {
     strategy: Strategy,
 }
 
-/// The strategy of a confirming search. An exact prefilter answers the match itself, and holds the patterns.
+/// The strategy of a confirming search. An exact prefilter itself answers with the match, and has the patterns.
 #[derive(Drop)]
 enum Strategy {
-    /// By one pattern. The kind of match makes no difference to it, and contracts alone see the kind.
+    /// By one pattern. The match kind makes no difference, and only contracts see it.
     Memmem(Memmem, packed::MatchKind),
     Packed(Searcher),
     Table(TableSearch),
 }
 
-/// A table, and the patterns that are tried where it proposes a place.
+/// A table, and the patterns that are tried where it proposes an offset.
 #[derive(Drop)]
 struct TableSearch {
     table: ByteTable,
@@ -232,7 +231,7 @@ impl Model for ConfirmingSearch {
 }
 
 impl Strategy {
-    /// The strategy of a search by the prefilter of a builder, which is for the match kind of this name.
+    /// The strategy of a search by the prefilter of a builder. The builder is for the match kind with the same name.
     fn of(
         prefilter: Prefilter,
         builder: Builder,
@@ -255,7 +254,7 @@ impl Strategy {
         }
     }
 
-    /// By a table, and by the patterns of the builder in the order of the kind.
+    /// By a table, and by the patterns of the builder in match order.
     fn by_table(
         table: ByteTable,
         builder: Builder,
@@ -278,12 +277,11 @@ impl Strategy {
 }
 
 impl ConfirmingSearch {
-    /// The search for the patterns that the iterator gives, with this kind of match and ASCII case
-    /// ignored or not, and `None` exactly where [`Builder::build`] has no prefilter for them. With case
-    /// ignored that is so of most lists of several words, since a letter takes two of the three bytes
-    /// that a table may have: `literal_search::Search` searches for any list. The iterator has to end.
-    /// Memory is asked for only for a pattern that [`Builder::add`] keeps, and behind
-    /// the last of them only where there is a prefilter.
+    /// The search for the patterns that an iterator gives, with this match kind, and with ASCII case ignored or kept.
+    /// It is `None` exactly if [`Builder::build`] has no prefilter for them. With case ignored most lists of several
+    /// words have none, since a letter takes two of the three bytes of a table; `literal_search::Search` searches for
+    /// any list. The iterator has to end. Memory is requested only for a pattern that [`Builder::add`] keeps, and after
+    /// the last one only if there is a prefilter.
     pub fn build<'a, I: IntoIterator<Item = &'a [u8]>>(
         alloc: Global,
         kind: packed::MatchKind,
@@ -303,7 +301,7 @@ impl ConfirmingSearch {
         ConfirmingSearch::of_builder(builder, kind)
     }
 
-    /// The search for the patterns of a builder, which is for the match kind of this name.
+    /// The search for the patterns of a builder, which is for the match kind with the same name.
     fn of_builder(
         builder: Builder,
         kind: packed::MatchKind,
@@ -320,9 +318,8 @@ impl ConfirmingSearch {
         Ok(Some(ConfirmingSearch { alloc, strategy }))
     }
 
-    /// The leftmost match in a span of the haystack, which has to be a valid span of it: as
-    /// [`Searcher::find_in`](literal_packed::Searcher::find_in) answers it, with ASCII case ignored
-    /// where that was asked for.
+    /// The leftmost match in a span, which has to be a valid span of the haystack, as
+    /// [`Searcher::find_in`](literal_packed::Searcher::find_in) finds it, and with ASCII case ignored if this was set.
     pub fn find_in(&self, haystack: &[u8], span: Span) -> Option<Match>
         requires { IsValidSpan haystack.now span }
         ensures { IsLeftmost self.now.query self.now.ignore_case haystack.now span result }
@@ -330,11 +327,10 @@ impl ConfirmingSearch {
         self.find_in_counted(haystack, span, &mut Tally::new())
     }
 
-    /// Answers as [`ConfirmingSearch::find_in`], and adds the steps that it takes to a tally. By a table
-    /// of bytes it scans at most as many bytes as there are from the span's start up to the match's end, or
-    /// as the span has where there is no match. Only places near a byte of the table are tried, and at each
-    /// of them the patterns are compared in match order, up to the match's own. By an exact prefilter it is
-    /// one search.
+    /// Like [`ConfirmingSearch::find_in`], and adds its steps to a tally. By a table it scans at most the bytes from
+    /// the span's start up to the match's end, or those of the span if there is no match. It tries only offsets near a
+    /// table byte, and at each of them it compares the patterns in match order, up to the match's own. By an exact
+    /// prefilter it counts as one search.
     pub fn find_in_counted(&self, haystack: &[u8], span: Span, tally: &mut Tally) -> Option<Match>
         requires { IsValidSpan haystack.now span }
         ensures leftmost { IsLeftmost self.now.query self.now.ignore_case haystack.now span result }
@@ -354,13 +350,11 @@ impl ConfirmingSearch {
         }
     }
 
-    /// All matches in the haystack, from the left, none of which overlaps another: first the leftmost
-    /// match of the haystack, and after each match the leftmost one of what is left behind it. The
-    /// steps of these searches are added to a tally, those before memory was refused too. By a table no
-    /// more bytes are scanned than the haystack has, and no more places tried than lie near a byte of
-    /// the table; by an exact prefilter it counts no more than
-    /// [`Searcher::find_all`](literal_packed::Searcher::find_all) may. Memory is refused only for a match
-    /// that was found, and nothing is searched for behind it.
+    /// All matches in the haystack that do not overlap: first the leftmost match, then each time the leftmost match
+    /// after the end of the previous one. The steps are added to a tally, also those before memory was refused. By a
+    /// table it scans at most the bytes of the haystack, and tries only offsets near a table byte; by an exact
+    /// prefilter it counts at most what [`Searcher::find_all`](literal_packed::Searcher::find_all) may count. Memory is
+    /// refused only for a match that was found, and the search then stops.
     pub fn find_all(&self, haystack: &[u8], tally: &mut Tally) -> Result<Vec<Match>, AllocError>
         ensures greedy { IfOk result
             (λ all. IsGreedy self.now.query self.now.ignore_case haystack.now 0 all.items) }
@@ -372,7 +366,7 @@ impl ConfirmingSearch {
         ensures bounded { SpendsConfirming self.now.prefilter self.now.query.patterns haystack.now
             tally.old tally.new }
     {
-        self.covers_its_patterns(); // (for the proof alone)
+        self.covers_its_patterns(); // (only for the proof)
         let mut all = Vec::new(self.alloc);
         let mut rest = Span {
             start: 0,
@@ -385,12 +379,12 @@ impl ConfirmingSearch {
         Ok(all)
     }
 
-    /// The prefilter covers the patterns, none of which is empty: what every value keeps, for the law that says
-    /// so and for proofs.
+    /// The invariant of every value, for proofs and for the law that states it: the prefilter covers the patterns, and
+    /// none is empty.
     pub(crate) fn covers_its_patterns(&self)
         ensures covered { CoveredBy self.now.prefilter self.now.query self.now.ignore_case }
         ensures not_empty { NoneIsEmpty self.now.query.patterns }
     {
-        let _ = &self.strategy; // (a read, after which the proof has what the fields keep)
+        let _ = &self.strategy; // (a read, which gives the proof the invariant of the fields)
     }
 }

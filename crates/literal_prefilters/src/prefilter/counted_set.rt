@@ -1,4 +1,4 @@
-//! A set of bytes that knows how many they are, and how common.
+//! A byte set that keeps its size and the sum of its ranks.
 ghost use Rattle.std.specs.Prelude.{◌≡◌, ◌==◌, ◌||◌, ◌&&◌, ◌<◌, ◌≤◌, ◌*◌, ◌↔◌, ℕ, true, false};
 ghost use Rattle.std.specs.Prelude.{IsTrue, nat_le};
 ghost use Rattle.std.specs.List.{list_any};
@@ -12,7 +12,7 @@ use literal_base::alphabet::{ByteSet, opposite_ascii_case};
 use literal_base::byte_frequencies::freq_rank;
 use std::marker::Model;
 
-/// A set of bytes, with their number and the sum of their ranks. Contracts see a test for each byte.
+/// A set of bytes, with their number and the sum of their ranks. Contracts see a boolean for each byte.
 #[derive(Drop)]
 pub(super) struct CountedSet {
     set: ByteSet,
@@ -33,7 +33,7 @@ impl Model for CountedSet {
 }
 
 impl CountedSet {
-    /// No byte.
+    /// The empty set.
     pub(super) fn empty() -> CountedSet
         ensures { (b : ℕ) → contains result b ≡ false }
     {
@@ -44,7 +44,7 @@ impl CountedSet {
         }
     }
 
-    /// Adds a byte, in both cases where case is ignored.
+    /// Adds a byte, in both cases if case is ignored.
     pub(super) fn mark(&mut self, byte: u8, ignore_case: bool)
         ensures { (b : ℕ) → contains self.new b ≡ (contains self.old b || same_byte ignore_case b byte) }
     {
@@ -77,7 +77,7 @@ impl CountedSet {
         pattern.iter().any(|byte| self.contains(*byte))
     }
 
-    /// Some byte of the set is above 0x7F.
+    /// Whether a byte of the set is above 0x7F.
     pub(super) fn holds_high(&self) -> bool
         ensures { IsTrue result ↔ ((b : ℕ) × (127 < b) × (b < 256) × (contains self.now b ≡ true)) }
     {
@@ -104,7 +104,7 @@ impl CountedSet {
         self.rank_sum
     }
 
-    /// It has as many bytes as a table may have.
+    /// Whether it has as many bytes as a table may have.
     pub(super) fn fits_a_table(&self) -> bool
         ensures { result ≡ (nat_le 1 (size (of_set (contains self.now)))
             && nat_le (size (of_set (contains self.now))) 3) }
@@ -112,7 +112,7 @@ impl CountedSet {
         self.count >= 1 && self.count <= MOST_BYTES
     }
 
-    /// It has more bytes than a table may have, and so has each set that holds them.
+    /// Whether it has more bytes than a table may have. So has each set that includes it.
     pub(super) fn is_past_a_table(&self) -> bool
         ensures { IsTrue result ↔ (3 < size (of_set (contains self.now))) }
     {

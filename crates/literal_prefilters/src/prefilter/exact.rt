@@ -1,5 +1,4 @@
-//! The kinds of prefilter that search exactly: each answers a match or nothing, and never a mere
-//! place at which one may begin.
+//! Prefilters that search exactly: their answer is a match or nothing, never just a possible start.
 ghost use Rattle.std.specs.Prelude.{◌≡◌, length, IfOk, Some, false};
 ghost use Rattle.literal_base.specs.Leftmost.{IsLeftmost};
 ghost use Rattle.literal_base.specs.Occurs.{IsValidSpan, pattern_at};
@@ -39,7 +38,7 @@ impl Model for Memmem {
 }
 
 impl Memmem {
-    /// Finds the one pattern of a list.
+    /// Finds the only pattern of a list.
     pub(super) fn new(alloc: Global, patterns: &Patterns) -> Result<Option<Memmem>, AllocError>
         requires one { length patterns.now.patterns ≡ 1 }
         ensures { IfOk result (λ built. built ≡ Some (pattern_at patterns.now.patterns 0)) }
@@ -53,7 +52,7 @@ impl Memmem {
         }))
     }
 
-    /// A copy, for the same pattern.
+    /// A copy for the same pattern.
     pub(super) fn try_clone(&self) -> Result<Memmem, AllocError>
         ensures { IfOk result (λ copy. copy ≡ self.now) }
     {
@@ -62,7 +61,7 @@ impl Memmem {
         })
     }
 
-    /// The first place in the span where the pattern occurs whole.
+    /// The first occurrence of the pattern that lies whole in the span.
     pub(super) fn find(&self, haystack: &[u8], span: Span, tally: &mut Tally) -> Option<Match>
         requires { IsValidSpan haystack.now span }
         ensures leftmost { IsLeftmost (query_of_one self.now) false haystack.now span result }
@@ -90,7 +89,7 @@ impl PrefilterI for Memmem {
     }
 }
 
-/// Finds some patterns, by a packed search. Contracts see what is searched for.
+/// Finds some patterns, by a packed search. Contracts see the query.
 #[derive(Drop)]
 pub struct Packed {
     pub(super) searcher: Searcher,
@@ -105,8 +104,7 @@ impl Model for Packed {
 }
 
 impl Packed {
-    /// Finds these patterns with this kind of match, if a searcher can be built for them: there are
-    /// 1 to 128.
+    /// Finds these patterns with this match kind, if a searcher can be built for them: there are 1 to 128.
     pub(super) fn new(
         alloc: Global,
         patterns: &Patterns,
@@ -127,7 +125,7 @@ impl Packed {
         Ok(Some(Packed { searcher }))
     }
 
-    /// A copy, for the same search.
+    /// A copy for the same search.
     pub(super) fn try_clone(&self) -> Result<Packed, AllocError>
         ensures { IfOk result (λ copy. copy ≡ self.now) }
     {

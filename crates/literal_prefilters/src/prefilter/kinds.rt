@@ -1,5 +1,5 @@
-//! The kinds of prefilter that look for single bytes: for one to three bytes with which the patterns
-//! begin, or for one to three rare bytes, of which each pattern holds one.
+//! Prefilters that look for single bytes: for the one to three bytes with which all patterns begin, or for one to three
+//! rare bytes, one of which is in each pattern.
 ghost use Rattle.std.specs.Prelude.{◌≡◌};
 
 use crate::prefilter::{ByteTable, Candidate, PrefilterI};
@@ -7,7 +7,7 @@ use literal_base::count::Tally;
 use literal_base::search::Span;
 use std::marker::Model;
 
-/// Looks for the bytes, this many, with one of which every pattern begins. Contracts see its table.
+/// Looks for the `COUNT` first bytes of all patterns. Contracts see its table.
 #[derive(Drop)]
 pub struct StartBytes<const COUNT: usize>(pub(super) ByteTable);
 
@@ -23,7 +23,7 @@ impl<const COUNT: usize> Model for StartBytes<COUNT> {
 }
 
 impl<const COUNT: usize> StartBytes<COUNT> {
-    /// A copy, with the same table.
+    /// A copy with the same table.
     pub(super) fn copy(&self) -> Self
         ensures { result ≡ self.now }
     {
@@ -47,17 +47,17 @@ impl<const COUNT: usize> PrefilterI for StartBytes<COUNT> {
     }
 }
 
-/// Looks for the one byte with which every pattern begins.
+/// Looks for the one first byte of all patterns.
 pub type StartBytesOne = StartBytes<1>;
 
-/// Looks for the two bytes with one of which every pattern begins.
+/// Looks for the two first bytes of all patterns.
 pub type StartBytesTwo = StartBytes<2>;
 
-/// Looks for the three bytes with one of which every pattern begins.
+/// Looks for the three first bytes of all patterns.
 pub type StartBytesThree = StartBytes<3>;
 
-/// Looks for bytes, this many, of which every pattern holds one, and proposes a place as far before
-/// the one that it finds as that may stand from the beginning of a pattern. Contracts see its table.
+/// Looks for `COUNT` bytes, one of which is in each pattern. It proposes the offset of the byte that it finds, minus
+/// the largest offset of this byte in a pattern. Contracts see its table.
 #[derive(Drop)]
 pub struct RareBytes<const COUNT: usize>(pub(super) ByteTable);
 
@@ -73,7 +73,7 @@ impl<const COUNT: usize> Model for RareBytes<COUNT> {
 }
 
 impl<const COUNT: usize> RareBytes<COUNT> {
-    /// A copy, with the same table.
+    /// A copy with the same table.
     pub(super) fn copy(&self) -> Self
         ensures { result ≡ self.now }
     {
@@ -97,11 +97,11 @@ impl<const COUNT: usize> PrefilterI for RareBytes<COUNT> {
     }
 }
 
-/// Looks for one byte that every pattern holds.
+/// Looks for one byte that is in each pattern.
 pub type RareBytesOne = RareBytes<1>;
 
-/// Looks for two bytes of which every pattern holds one.
+/// Looks for two bytes, one of which is in each pattern.
 pub type RareBytesTwo = RareBytes<2>;
 
-/// Looks for three bytes of which every pattern holds one.
+/// Looks for three bytes, one of which is in each pattern.
 pub type RareBytesThree = RareBytes<3>;

@@ -1,5 +1,5 @@
-//! What a builder keeps of its patterns beside them, so that it makes their tables without a walk over
-//! the list.
+//! The data for tables that a builder keeps besides its patterns, so that it makes the tables without visiting all
+//! patterns.
 ghost use Rattle.std.specs.Prelude.{◌≡◌, ◌<◌, ◌≤◌, ◌++◌, ◌∷◌, [], ℕ, Bool, List, length, slice_index};
 ghost use Rattle.literal_base.specs.Occurs.{NoneIsEmpty};
 ghost use Rattle.literal_prefilters.specs.Inside.Running.{AreSame, IsRunning, IsRunningRare, IsRunningStart};
@@ -10,7 +10,7 @@ use super::counted_set::CountedSet;
 use super::tables::{LONGEST, add_rarest, add_start, bytes_of, raise_all};
 use literal_packed::pattern::Patterns;
 
-/// What is kept of the patterns so far.
+/// The data for the tables of the patterns so far.
 #[derive(Drop)]
 pub(super) struct Running {
     start: RunningStart,
@@ -18,7 +18,7 @@ pub(super) struct Running {
 }
 
 impl Running {
-    /// No pattern.
+    /// The data for no pattern.
     pub(super) fn new() -> Running
         ensures { (ignore_case : Bool) → IsRunning ignore_case [] result }
     {
@@ -28,7 +28,7 @@ impl Running {
         }
     }
 
-    /// All patterns of a list.
+    /// The data for all patterns of a list.
     pub(super) fn of(patterns: &Patterns, ignore_case: bool) -> Running
         ensures running { IsRunning ignore_case patterns.now.patterns result }
         ensures not_empty { NoneIsEmpty patterns.now.patterns }
@@ -40,7 +40,7 @@ impl Running {
         running
     }
 
-    /// Takes one pattern more.
+    /// Includes one more pattern.
     pub(super) fn push(&mut self, pattern: &[u8], ignore_case: bool)
         requires { 0 < length pattern.now }
         ensures { (patterns : List (List ℕ)) → IsRunning ignore_case patterns self.old
@@ -68,8 +68,8 @@ impl Running {
     }
 }
 
-/// The patterns determine what is kept of them. So where a builder that is refused memory has the patterns that
-/// it had, what it keeps of them is as before too.
+/// The patterns determine these data. So if a builder is refused memory and keeps the patterns that it had, its data
+/// are as before too.
 pub(super) fn patterns_determine_what_is_kept()
     ensures { (ignore_case : Bool) (patterns : List (List ℕ)) (a b : Running)
         → IsRunning ignore_case patterns a
@@ -77,7 +77,7 @@ pub(super) fn patterns_determine_what_is_kept()
         → AreSame a b }
 {}
 
-/// The bytes with which patterns begin. Once they are too many for a table no more are added.
+/// The first bytes of patterns. Once there are too many for a table, no more are added.
 #[derive(Drop)]
 struct RunningStart {
     set: CountedSet,
@@ -103,8 +103,8 @@ impl RunningStart {
     }
 }
 
-/// A rare byte of each pattern, and how far each byte stands from the beginning of a pattern at most.
-/// Once these bytes are too many for a table, or a pattern is too long for one, nothing more is kept up.
+/// A rare byte of each pattern, and the largest offset of each byte in a pattern. Once these bytes are too many for a
+/// table, or a pattern is too long for one, this is no longer updated.
 #[derive(Drop)]
 struct RunningRare {
     set: CountedSet,

@@ -1,4 +1,4 @@
-//! The tables of a list of patterns: by the bytes with which they begin, and by a rare byte of each.
+//! The tables of a list of patterns: of their first bytes, and of a rare byte of each.
 ghost use Rattle.std.specs.Prelude.{◌≡◌, ◌==◌, ◌||◌, ◌<◌, ◌≤◌, ℕ, max, length, slice_index, if◌then◌else◌};
 ghost use Rattle.std.specs.Prelude.{nat_le};
 ghost use Rattle.std.specs.List.{All, list_all};
@@ -14,12 +14,10 @@ use literal_base::byte_frequencies::freq_rank;
 use literal_ids::PatternID;
 use literal_packed::pattern::Patterns;
 
-/// The length of the longest pattern that a table of rare bytes may have, so that an offset fits a
-/// byte.
+/// The length of the longest pattern for a table of rare bytes, so that an offset fits a byte.
 pub(super) const LONGEST: usize = 255;
 
-/// The pattern of an identifier: the tables take the patterns by rising identifier, in whatever order
-/// they are tried at a place.
+/// The pattern with an identifier. Tables visit the patterns by ascending identifier, in whatever order they are tried.
 pub(super) fn bytes_of(patterns: &Patterns, id: usize) -> &[u8]
     requires { id < length patterns.now.patterns }
     ensures bytes { result.now ≡ pattern_at patterns.now.patterns id }
@@ -29,7 +27,7 @@ pub(super) fn bytes_of(patterns: &Patterns, id: usize) -> &[u8]
     patterns.get(PatternID::must(id)).bytes()
 }
 
-/// Adds the byte with which a pattern begins.
+/// Adds the first byte of a pattern.
 pub(super) fn add_start(set: &mut CountedSet, pattern: &[u8], ignore_case: bool)
     requires { 0 < length pattern.now }
     ensures { (b : ℕ) → contains set.new b
@@ -38,7 +36,7 @@ pub(super) fn add_start(set: &mut CountedSet, pattern: &[u8], ignore_case: bool)
     set.mark(pattern[0], ignore_case);
 }
 
-/// The earliest byte of least rank.
+/// The first byte of least rank.
 fn rarest(pattern: &[u8]) -> u8
     requires { 0 < length pattern.now }
     ensures { result ≡ rarest pattern.now }
@@ -52,7 +50,7 @@ fn rarest(pattern: &[u8]) -> u8
     best
 }
 
-/// Adds the rarest byte of a pattern, unless the set holds a byte of it.
+/// Adds the rarest byte of a pattern, unless the pattern has a byte of the set.
 pub(super) fn add_rarest(set: &mut CountedSet, pattern: &[u8], ignore_case: bool)
     requires { 0 < length pattern.now }
     ensures each { (b : ℕ) → contains set.new b ≡ with_rarest ignore_case (contains set.old) pattern.now b }
@@ -73,8 +71,7 @@ fn raise(offsets: &mut [u8; 256], byte: u8, offset: u8)
     }
 }
 
-/// Raises the offset of each byte of the pattern, in both cases where case is ignored, to that of
-/// its last place.
+/// Raises the offset of each byte of the pattern, in both cases if case is ignored, to its last offset in the pattern.
 pub(super) fn raise_all(offsets: &mut [u8; 256], pattern: &[u8], ignore_case: bool)
     requires { length pattern.now ≤ 255 }
     ensures { (b : ℕ) → slice_index offsets.new b ≡ max (slice_index offsets.old b)

@@ -46,8 +46,8 @@ bytes_more text byte bytes small i =
     grind (arith, cases_lt, get_or_append_left)
 
 -- where the row of a state begins
-abbrev pub IsPlaceOf : ℕ → ℕ → Type 0
-IsPlaceOf state place = ((state < 2 ^ 31) × (place ≡ state)) ⊎ ((2 ^ 31 ≤ state) × (place ≡ state - 2 ^ 31))
+abbrev pub IsRowOf : ℕ → ℕ → Type 0
+IsRowOf state row = ((state < 2 ^ 31) × (row ≡ state)) ⊎ ((2 ^ 31 ≤ state) × (row ≡ state - 2 ^ 31))
 
 module _ (t : Tables) (are : AreTables t) (text : List ℕ) (state : ℕ) (is : IsStateAfter t text state) where
   abbrev symbols : List ℕ
@@ -78,23 +78,23 @@ module _ (t : Tables) (are : AreTables t) (text : List ℕ) (state : ℕ) (is : 
           absurd (omega arith)
       by (Some first) some = (first, some)
 
-  module _ (place : ℕ) (place_is : IsPlaceOf state place) where
+  module _ (row : ℕ) (row_is : IsRowOf state row) where
     pub stands_at_row : (recognises : Recognises (texts_in t) t.width t.rows)
-        → IsAt (texts_in t) t.width t.rows recognises symbols place
+        → IsAt (texts_in t) t.width t.rows recognises symbols row
     stands_at_row recognises =
         let to = is.leads recognises in
         let fits = row_fits (texts_in t) t.width t.rows recognises to.state to.is_state in
         let few = recognises.few in
-        record { state = to.state; is_state = to.is_state; place_is = grind arith; live_suffix = sym to.word_is }
+        record { state = to.state; is_state = to.is_state; row_is = grind arith; live_suffix = sym to.word_is }
 
-    pub row_within : place + t.width < length t.rows
+    pub row_within : row + t.width < length t.rows
     row_within =
         let at = stands_at_row are.recognises in
         let fits = row_fits (texts_in t) t.width t.rows are.recognises at.state at.is_state in
-        omega (arith, at.place_is)
+        omega (arith, at.row_is)
 
     -- the state after one byte more
-    pub steps : (byte code : ℕ) → byte < 256 → code ≡ get_or t.rows (place + get_or t.classes byte 0) 0
+    pub steps : (byte code : ℕ) → byte < 256 → code ≡ get_or t.rows (row + get_or t.classes byte 0) 0
         → IsStateAfter t (text ++ byte ∷ []) code
     steps byte code small code_is =
         let more = map-append (λ byte. get_or t.classes byte 0) text (byte ∷ []) in
@@ -102,7 +102,7 @@ module _ (t : Tables) (are : AreTables t) (text : List ℕ) (state : ℕ) (is : 
           bytes = bytes_more text byte is.bytes small;
           leads = λ recognises. subst
               (λ (s : List ℕ). LeadsTo (texts_in t) recognises.words t.width code (live_suffix (texts_in t) s))
-              (sym more) (leads_on (texts_in t) t.width t.rows recognises symbols place (stands_at_row recognises)
+              (sym more) (leads_on (texts_in t) t.width t.rows recognises symbols row (stands_at_row recognises)
               (get_or t.classes byte 0) (are.classes.below byte small) code code_is);
         }
 
@@ -147,15 +147,15 @@ module _ (t : Tables) (are : AreTables t) (text : List ℕ) (state : ℕ) (is : 
       (one.0, ends_text one.0 (first_there one.0 one.1).is)
 
   -- the list of the pattern that the row names
-  module _ (place : ℕ) (large : 2 ^ 31 ≤ state) (place_is : place ≡ state - 2 ^ 31) where
+  module _ (row : ℕ) (large : 2 ^ 31 ≤ state) (row_is : row ≡ state - 2 ^ 31) where
     abbrev longest : ℕ
-    longest = get_or t.rows (place + t.width) 0
+    longest = get_or t.rows (row + t.width) 0
 
     is_first : IsFirstSuffix (texts_in t) symbols longest
     is_first =
         let one = some_above large in
-        let at = stands_at_row place (inr (large, place_is)) are.recognises in
-        let named : longest ≡ one.0 = ends_at (texts_in t) t.width t.rows are.recognises symbols place at
+        let at = stands_at_row row (inr (large, row_is)) are.recognises in
+        let named : longest ≡ one.0 = ends_at (texts_in t) t.width t.rows are.recognises symbols row at
         ∙ ap (λ o. unwrap_or o nothing) one.1 in
         subst (IsFirstSuffix (texts_in t) symbols) (sym named) (first_there one.0 one.1)
 
@@ -194,8 +194,8 @@ module _ (t : Tables) (are : AreTables t) (text : List ℕ) (state : ℕ) (is : 
           let one = list.every i suffix (omega arith) in
           let k = one.0 - from in
           let below : k < length part = omega (arith, long, one.1, one.2) in
-          let place : from + k ≡ one.0 = omega (arith, one.1) in
-          (k, below, at k i below ∙ (ap (λ n. get_or t.ends n 0) place ∙ one.3));
+          let index_is : from + k ≡ one.0 = omega (arith, one.1) in
+          (k, below, at k i below ∙ (ap (λ n. get_or t.ends n 0) index_is ∙ one.3));
     }
       where
         long : length part ≡ get_or t.starts (longest + 1) 0 - from
@@ -248,7 +248,7 @@ module _ (patterns : List (List ℕ)) (ignore_case : Bool) (haystack : List ℕ)
         → OccursAtEnd patterns ignore_case text (whole_of text) i
     in_part i (start, o, whole) =
         let begun = o.after_start in
-        let place : from + (start - from) ≡ start = omega arith in
+        let start_is : from + (start - from) ≡ start = omega arith in
         let within : start - from + length (pattern_at patterns i) ≡ length text = omega (arith, whole, long_text) in (
           start - from,
           record {
@@ -257,7 +257,7 @@ module _ (patterns : List (List ℕ)) (ignore_case : Bool) (haystack : List ℕ)
             before_end = omega arith;
             same = ap (case_folded ignore_case)
                 (same_part (start - from) (length (pattern_at patterns i)) (omega (arith, whole))
-                ∙ ap (λ k. slice_range haystack k (k + length (pattern_at patterns i))) place)
+                ∙ ap (λ k. slice_range haystack k (k + length (pattern_at patterns i))) start_is)
                 ∙ o.same;
           },
           within,

@@ -99,13 +99,13 @@ module _ {search : SearchValue} {numbers : List ℕ} (kept : AreKept search numb
       + SCAN_LEN
   kept_long =
       let fits = kept.prepared.whole.parts.fits in
-      let places = length_part numbers (rows_at numbers) (rows_end numbers) (omega arith) (omega arith) in
+      let rows_len = length_part numbers (rows_at numbers) (rows_end numbers) (omega arith) (omega arith) in
       let lengths = length_part numbers 6 (rows_at numbers) (omega arith) (omega arith) in
       let many = ap (λ (l : List ℕ). length l) kept.prepared.lengths
       ∙ length-map search.query.patterns (λ (bytes : List ℕ). length bytes) in
-      omega (arith, kept.long, places, lengths, many)
+      omega (arith, kept.long, rows_len, lengths, many)
 
-  -- and so many places are enough for them
+  -- and so many entries are enough for them
   pub takes_kept : TakesPlaces search (length numbers)
   unfolding TakesPlaces
   takes_kept = grind (arith, kept_long)

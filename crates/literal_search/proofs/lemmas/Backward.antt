@@ -12,7 +12,7 @@ use Rattle.literal_base.specs.declared.packed.MatchKind.{MatchKind}
 use Rattle.literal_base.specs.declared.packed.MatchKind.TheVariants.{LeftmostFirst, LeftmostLongest}
 use Rattle.literal_search.specs.Inside.Classes.{symbols_in}
 use Rattle.literal_search.specs.Inside.Suffixes.{IsSuffix}
-use Rattle.literal_search.specs.Inside.Backward.{AreBackFor, BeginsBest, IsMark, IsRead, StandsDown, back_tables_by}
+use Rattle.literal_search.specs.Inside.Backward.{AreBackFor, BeginsBest, HasReadBack, IsMark, IsRead, back_tables_by}
 use Rattle.literal_search.specs.Inside.Backward.{named_by}
 use Rattle.literal_search.specs.Inside.Walk.{IsAt, text_of}
 use Rattle.literal_search.specs.SearchValue.{reversed, unshadowed}
@@ -105,21 +105,21 @@ module _ (p : BackTables) (are : AreBackTables p) (haystack : List ℕ) (bytes :
         let none : at - at ≡ 0 = omega arith in
         ap (λ n. symbols_in p.classes (take n (drop at haystack))) none
 
-    row_of : (text : List ℕ) (place : ℕ)
-        → IsAt (texts_back p) p.width p.rows are.recognises text place
-        → place + p.width < length p.rows
-    row_of text place at =
-        let row = row_at (texts_back p) p.width p.rows are.recognises text place at in
-        omega (arith, row.fits)
+    row_of : (text : List ℕ) (row : ℕ)
+        → IsAt (texts_back p) p.width p.rows are.recognises text row
+        → row + p.width < length p.rows
+    row_of text row at =
+        let fits = (row_at (texts_back p) p.width p.rows are.recognises text row at).fits in
+        omega (arith, fits)
 
     -- a walk that read nothing
-    pub stands_nowhere : (from : ℕ) → StandsDown p haystack from from 0
+    pub stands_nowhere : (from : ℕ) → HasReadBack p haystack from from 0
     stands_nowhere from = grind (arith, at_start, no_text, row_of)
 
     -- one byte more
-    module _ (from at place code : ℕ) (before : at < from) (inside : from ≤ length haystack)
-        (stands : StandsDown p haystack from (at + 1) place)
-        (code_is : code ≡ get_or p.rows (place + get_or p.classes (get_or haystack at 0) 0) 0)
+    module _ (from at row code : ℕ) (before : at < from) (inside : from ≤ length haystack)
+        (stands : HasReadBack p haystack from (at + 1) row)
+        (code_is : code ≡ get_or p.rows (row + get_or p.classes (get_or haystack at 0) 0) 0)
       where
         abbrev symbol : ℕ
         symbol = get_or p.classes (get_or haystack at 0) 0
@@ -140,7 +140,7 @@ module _ (p : BackTables) (are : AreBackTables p) (haystack : List ℕ) (bytes :
             → IsAt (texts_back p) p.width p.rows recognises (read at from) code
             × (ending (texts_back p) (read at from) ≡ None)
         without small recognises =
-            let on = at_without_end (texts_back p) p.width p.rows recognises (read (at + 1) from) place
+            let on = at_without_end (texts_back p) p.width p.rows recognises (read (at + 1) from) row
             (stands.is_at recognises) symbol below code code_is small in (
               subst (λ t. IsAt (texts_back p) p.width p.rows recognises t code) more on.0,
               ap (ending (texts_back p)) (sym more) ∙ on.1,
@@ -151,7 +151,7 @@ module _ (p : BackTables) (are : AreBackTables p) (haystack : List ℕ) (bytes :
             → IsAt (texts_back p) p.width p.rows recognises (read at from) (code - 2 ^ 31)
             × (ending (texts_back p) (read at from) ≡ Some (named_by p code))
         with_end large recognises =
-            let on = at_with_end (texts_back p) p.width p.rows recognises (read (at + 1) from) place
+            let on = at_with_end (texts_back p) p.width p.rows recognises (read (at + 1) from) row
             (stands.is_at recognises) symbol below code code_is large in (
               subst (λ t. IsAt (texts_back p) p.width p.rows recognises t (code - 2 ^ 31)) more on.0,
               ap (ending (texts_back p)) (sym more) ∙ on.1,
@@ -168,20 +168,20 @@ module _ (p : BackTables) (are : AreBackTables p) (haystack : List ℕ) (bytes :
               best_begins from at (omega arith) inside (named_by p code) (with_end large are.recognises).1;
         }
 
-        pub stands_there : StandsDown p haystack from at (code % 2 ^ 31)
+        pub stands_there : HasReadBack p haystack from at (code % 2 ^ 31)
         stands_there = elim (cases_lt code (2 ^ 31)) [
           | inl small ↦
               let is : code ≡ code % 2 ^ 31 = omega arith in
-              subst (StandsDown p haystack from at) is (record {
-                row = row_of (read at from) code (without small are.recognises).0;
+              subst (HasReadBack p haystack from at) is (record {
+                fits = row_of (read at from) code (without small are.recognises).0;
                 is_at = λ recognises. (without small recognises).0;
               })
           | inr large ↦
-              let row = row_of (read at from) (code - 2 ^ 31) (with_end large are.recognises).0 in
+              let fits = row_of (read at from) (code - 2 ^ 31) (with_end large are.recognises).0 in
               let few = are.recognises.few in
               let is : code - 2 ^ 31 ≡ code % 2 ^ 31 = omega arith in
-              subst (StandsDown p haystack from at) is (record {
-                row = row;
+              subst (HasReadBack p haystack from at) is (record {
+                fits = fits;
                 is_at = λ recognises. (with_end large recognises).0;
               })
         ]
@@ -194,11 +194,11 @@ ticked_on old now new before tick = grind arith
 
 -- what was read for the byte before where a walk stands
 pub read_one : (p : BackTables) → AreBackTables p → (haystack : List ℕ) → ((i : ℕ) → get_or haystack i 0 < 256)
-    → (from at place code : ℕ) → at < from → from ≤ length haystack → StandsDown p haystack from (at + 1) place
-    → code ≡ get_or p.rows (place + get_or p.classes (get_or haystack at 0) 0) 0 → IsRead p haystack from at code
-read_one p tables haystack bytes from at place code before inside stands is = record {
-  mark = mark_there p tables haystack bytes from at place code before inside stands is;
-  stands = stands_there p tables haystack bytes from at place code before inside stands is;
+    → (from at row code : ℕ) → at < from → from ≤ length haystack → HasReadBack p haystack from (at + 1) row
+    → code ≡ get_or p.rows (row + get_or p.classes (get_or haystack at 0) 0) 0 → IsRead p haystack from at code
+read_one p tables haystack bytes from at row code before inside stands is = record {
+  mark = mark_there p tables haystack bytes from at row code before inside stands is;
+  stands = stands_there p tables haystack bytes from at row code before inside stands is;
 }
 
 -- what is known of a walk that began so far behind that all that begins there lies before

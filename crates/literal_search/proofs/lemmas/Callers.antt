@@ -17,10 +17,11 @@ use Rattle.std.specs.declared.slice.Iter.{Iter}
 use Rattle.std.proofs.lemmas.Iterator.{YieldsList, YieldsList-from_map_by, YieldsList-from_slice, items_from_drains}
 use Rattle.std.proofs.lemmas.Iterator.{maps}
 use Rattle.std.proofs.lemmas.Iterator.Consumers.{YieldsList-so_far, YieldsList-turn}
-use Rattle.std.proofs.lemmas.List.{get_or_default, length-map}
+use Rattle.std.proofs.lemmas.List.{get_or-map, get_or_default, length-map}
 use denote.Param.Members.{Mut}
 use Rattle.literal_base.specs.declared.packed.MatchKind.{MatchKind}
 use Rattle.literal_base.specs.Greedy.{IsGreedy, IsGreedyIn}
+use Rattle.literal_base.specs.Leftmost.{IsLeftmost, IsLeftmostMatch}
 use Rattle.literal_base.specs.MatchValue.{MatchValue}
 use Rattle.literal_base.specs.Occurs.{Occurs, between, pattern_at, rest_from, whole_of}
 use Rattle.literal_base.proofs.lemmas.Callers.{GivesList}
@@ -31,12 +32,12 @@ use Rattle.literal_search.specs.Automaton.{AreAtEnd, EndsText, IsStateAfter}
 use Rattle.literal_search.specs.MatchesValue.{GivesMatch, MatchesValue}
 use Rattle.literal_search.specs.Overlapping.{BuildsOverlapping, OverlappingValue}
 use Rattle.literal_search.specs.PreparedOverlapping.{Tables, overlapping_value}
-use Rattle.literal_search.specs.Replaced.{IsReplaced, IsWritten, WritesMatch, WritingValue, replaced}
+use Rattle.literal_search.specs.Replaced.{IsReplaced, IsWritten, WritesMatch, WritingValue, replaced, replaced_by}
 use Rattle.literal_search.specs.States.{HasTooManyStates}
 use Rattle.literal_search.proofs.lemmas.Automaton.{all_in_haystack, in_haystack, in_part}
 use Rattle.literal_search.proofs.lemmas.Rows.{none_few, one_class}
 use Rattle.literal_search.proofs.lemmas.Walk.{slice_push}
-use Rattle.std.specs.List.{All, AllPairs, IsAmong, filter}
+use Rattle.std.specs.List.{IsAmong, filter}
 use Rattle.std.proofs.Common.{cond, suc, true, zero, ⊎_elim}
 use Rattle.std.proofs.lemmas.Bool.{cases_Bool}
 use Rattle.std.proofs.lemmas.List.Elements.{All-filter, filter_passes}
@@ -136,17 +137,17 @@ module _ {U T : Type 0} {becomes : U → T → Type 0} {steps : T → Option (Bo
   overlapping_is_for = overlapping_is_for_bytes list_gives_bytes
 
 -- what an iteration gave, and behind it the greedy list of what is left, is the greedy list from where it stood
-pub greedy_behind : (m : MatchesValue) (all more : List MatchValue) (n : MatchesValue) → Yields GivesMatch m all n
+pub greedy_after : (m : MatchesValue) (all more : List MatchValue) (n : MatchesValue) → Yields GivesMatch m all n
     → IsGreedyIn n.search.query n.search.ignore_case n.haystack (between n.at n.span.end) more
     → IsGreedyIn m.search.query m.search.ignore_case m.haystack (between m.at m.span.end) (all ++ more)
-greedy_behind m [] more n stays greedy =
+greedy_after m [] more n stays greedy =
     subst (λ (it : MatchesValue). IsGreedyIn it.search.query it.search.ignore_case it.haystack
     (between it.at it.span.end) more) (sym stays) greedy
-greedy_behind m (found ∷ rest) more n run greedy = (
+greedy_after m (found ∷ rest) more n run greedy = (
   run.1.leftmost,
   subst (λ (it : MatchesValue). IsGreedyIn it.search.query it.search.ignore_case it.haystack
       (between it.at it.span.end) (rest ++ more))
-      run.1.goes_on (greedy_behind run.0 rest more n run.2 greedy),
+      run.1.goes_on (greedy_after run.0 rest more n run.2 greedy),
 )
 
 -- so what it gives up to its end is the greedy list
@@ -155,7 +156,7 @@ pub greedy_from_yields : (m : MatchesValue) (all : List MatchValue) (n o : Match
     → IsGreedyIn m.search.query m.search.ignore_case m.haystack (between m.at m.span.end) all
 greedy_from_yields m all n o run nothing =
     subst (IsGreedyIn m.search.query m.search.ignore_case m.haystack (between m.at m.span.end)) (append-nil all)
-    (greedy_behind m all [] n run nothing.leftmost)
+    (greedy_after m all [] n run nothing.leftmost)
 
 -- an iteration that began at the start of a haystack
 abbrev pub matches_of : SearchValue → List ℕ → MatchesValue
@@ -169,6 +170,48 @@ pub greedy_from_matches : (searched : SearchValue) (haystack : List ℕ) (m : Ma
 greedy_from_matches searched haystack m all n o start run nothing =
     subst (λ (it : MatchesValue). IsGreedyIn it.search.query it.search.ignore_case it.haystack
     (between it.at it.span.end) all) start (greedy_from_yields m all n o run nothing)
+
+-- what a loop over the matches of a haystack carries: the iteration is over them, and goes on from an offset
+pub record AreMatchesFrom (search : SearchValue) (haystack : List ℕ) (at : ℕ) (it : MatchesValue) : Type 0 where
+  pub search_is : it.search ≡ search
+  pub haystack_is : it.haystack ≡ haystack
+  pub end_is : it.span.end ≡ length haystack
+  pub at_is : it.at ≡ at
+  pub within : at ≤ length haystack
+
+module _ {search : SearchValue} {haystack : List ℕ} {at : ℕ} {it next : MatchesValue}
+    (from : AreMatchesFrom search haystack at it) where
+  -- a step gives the leftmost match from there on
+  pub match_from : (answer : Option MatchValue) → GivesMatch it answer next
+      → IsLeftmost search.query search.ignore_case haystack (rest_from haystack at) answer
+  match_from answer step =
+      subst (λ (s : SearchValue). IsLeftmost s.query s.ignore_case haystack (rest_from haystack at) answer)
+      from.search_is
+      (subst (λ (h : List ℕ). IsLeftmost it.search.query it.search.ignore_case h (rest_from haystack at) answer)
+      from.haystack_is
+      (subst (λ end. IsLeftmost it.search.query it.search.ignore_case it.haystack (between at end) answer) from.end_is
+      (subst (λ at. IsLeftmost it.search.query it.search.ignore_case it.haystack (between at it.span.end) answer)
+      from.at_is step.leftmost)))
+
+  -- and the loop goes on at the match's end
+  pub matches_go_on : {found : MatchValue} {to : ℕ} → to ≡ found.end → GivesMatch it (Some found) next
+      → AreMatchesFrom search haystack to next
+  matches_go_on {found} end step =
+      let leftmost = match_from (Some found) step in
+      record {
+        search_is = ap (λ (m : MatchesValue). m.search) step.goes_on ∙ from.search_is;
+        haystack_is = ap (λ (m : MatchesValue). m.haystack) step.goes_on ∙ from.haystack_is;
+        end_is = ap (λ (m : MatchesValue). m.span.end) step.goes_on ∙ from.end_is;
+        at_is = ap (λ (m : MatchesValue). m.at) step.goes_on ∙ sym end;
+        within = omega (arith, end, leftmost.whole, leftmost.occurs.before_end);
+      }
+
+-- a search of which the kind and the case are known is the one by these for its patterns
+pub search_kept : (search : SearchValue) {kind : MatchKind} {ignore_case : Bool} → search.query.kind ≡ kind
+    → search.ignore_case ≡ ignore_case → search ≡ search_by kind ignore_case search.query.patterns
+search_kept search {kind} {ignore_case} kind_is case_is =
+    ap (λ (b : Bool). search_by search.query.kind b search.query.patterns) case_is
+    ∙ ap (λ (k : MatchKind). search_by k ignore_case search.query.patterns) kind_is
 
 -- A loop over a haystack by the automaton of a search: the state after the part of it that was read.
 module _ {search : OverlappingValue} {t : Tables} (is_for : overlapping_value t ≡ search) (haystack : List ℕ)
@@ -186,18 +229,18 @@ module _ {search : OverlappingValue} {t : Tables} (is_for : overlapping_value t 
     pub part_tells : at ≤ length haystack → IsStateAfter t (slice_range haystack from at) state → (told : Bool)
         → ((text : List ℕ) → IsStateAfter t text state → IsTrue told ↔ ((i : ℕ) × EndsText t text i))
         → IsTrue told
-        ↔ ((i : ℕ) × (place : ℕ)
-        × Occurs search.patterns search.ignore_case haystack (rest_from haystack from) i place
-        × (place + length (pattern_at search.patterns i) ≡ at))
+        ↔ ((i : ℕ) × (offset : ℕ)
+        × Occurs search.patterns search.ignore_case haystack (rest_from haystack from) i offset
+        × (offset + length (pattern_at search.patterns i) ≡ at))
     part_tells inside is told tells =
         subst (λ (s : OverlappingValue). IsTrue told
-        ↔ ((i : ℕ) × (place : ℕ) × Occurs s.patterns s.ignore_case haystack (rest_from haystack from) i place
-        × (place + length (pattern_at s.patterns i) ≡ at))) is_for (
+        ↔ ((i : ℕ) × (offset : ℕ) × Occurs s.patterns s.ignore_case haystack (rest_from haystack from) i offset
+        × (offset + length (pattern_at s.patterns i) ≡ at))) is_for (
           λ yes.
               let (i, ends) = (tells (slice_range haystack from at) is).0 yes in
-              let (place, o, end) = in_haystack t.patterns t.ignore_case haystack from at after inside i ends in (
+              let (offset, o, end) = in_haystack t.patterns t.ignore_case haystack from at after inside i ends in (
                 i,
-                place,
+                offset,
                 record {
                   is_pattern = o.is_pattern;
                   after_start = o.after_start;
@@ -206,11 +249,11 @@ module _ {search : OverlappingValue} {t : Tables} (is_for : overlapping_value t 
                 },
                 end,
               ),
-          λ (i, place, o, end).
+          λ (i, offset, o, end).
               (tells (slice_range haystack from at) is).1 (
                 i,
                 in_part t.patterns t.ignore_case haystack from at after inside i (
-                  place,
+                  offset,
                   record {
                     is_pattern = o.is_pattern;
                     after_start = o.after_start;
@@ -244,41 +287,97 @@ unfolding NeedTooManyReversed
 none_need_few_reversed ignore_case (classes, are, tells, many) =
     none_few (subst (HasTooManyStates []) (one_class ignore_case) many)
 
+-- what occurs from an offset on occurs in the haystack
+is_occurrence : {search : SearchValue} {haystack : List ℕ} {at : ℕ} {found : MatchValue}
+    → IsLeftmostMatch search.query search.ignore_case haystack (rest_from haystack at) found
+    → IsOccurrence search.query.patterns search.ignore_case haystack (whole_of haystack) found
+is_occurrence is = record {
+  occurs = record {
+    is_pattern = is.occurs.is_pattern;
+    after_start = omega arith;
+    before_end = is.occurs.before_end;
+    same = is.occurs.same;
+  };
+  whole = is.whole;
+}
+
+-- two functions that give the same bytes for each match give the same text
+pub replaced_same : (search : SearchValue) (haystack : List ℕ) (f g : MatchValue → List ℕ)
+    → ((found : MatchValue)
+    → IsOccurrence search.query.patterns search.ignore_case haystack (whole_of haystack) found → f found ≡ g found)
+    → (at : ℕ) (all : List MatchValue) → IsGreedy search.query search.ignore_case haystack at all
+    → replaced_by f haystack at all ≡ replaced_by g haystack at all
+replaced_same search haystack f g same at [] nothing = refl
+replaced_same search haystack f g same at (found ∷ more) greedy =
+    let before = slice_range haystack at found.start in
+    ap (λ bytes. before ++ (bytes ++ replaced_by f haystack found.end more)) (same found (is_occurrence greedy.0))
+    ∙ ap (λ rest. before ++ (g found ++ rest)) (replaced_same search haystack f g same found.end more greedy.1)
+
+-- what a function gives for each pattern, as replacements, is what it gives for the pattern of each match
+pub replaced_by_patterns : (search : SearchValue) (haystack : List ℕ) (f : List ℕ → List ℕ) (all : List MatchValue)
+    → IsGreedy search.query search.ignore_case haystack 0 all
+    → replaced haystack (map f search.query.patterns) 0 all
+    ≡ replaced_by (λ found. f (pattern_at search.query.patterns found.pattern)) haystack 0 all
+replaced_by_patterns search haystack f all greedy =
+    replaced_same search haystack (λ found. pattern_at (map f search.query.patterns) found.pattern)
+    (λ found. f (pattern_at search.query.patterns found.pattern))
+    (λ found is. get_or-map f search.query.patterns found.pattern [] [] is.occurs.is_pattern) 0 all greedy
+
 -- `holds` is what holds of the function from call to call, such as that it stays as it was
 module _ {F : Type 0}
     (step : F → MatchValue → Bor (List ℕ) → MutBor (Vec ℕ) → Result ⊤ AllocError → MutBor (Vec ℕ) → F → Type 0)
-    (searched : SearchValue) (haystack : List ℕ) (replacements : List (List ℕ)) (holds : F → Type 0)
+    (searched : SearchValue) (haystack : List ℕ) (bytes_for : MatchValue → List ℕ) (holds : F → Type 0)
     (writes : (f : F) (found : MatchValue) (bytes : Bor (List ℕ)) (before behind : MutBor (Vec ℕ)) (next : F)
-    → holds f → found.pattern < length searched.query.patterns → step f found bytes before (Ok tt) behind next
-    → holds next × (behind.now.items ≡ before.now.items ++ pattern_at replacements found.pattern)) where
+    → holds f → IsOccurrence searched.query.patterns searched.ignore_case haystack (whole_of haystack) found
+    → bytes.now ≡ slice_range haystack found.start found.end → step f found bytes before (Ok tt) behind next
+    → holds next × (behind.now.items ≡ before.now.items ++ bytes_for found)) where
   written_behind : (first last : WritingValue F) (all : List MatchValue) → holds first.writer
       → IsGreedy searched.query searched.ignore_case haystack first.at all
       → FoldsTo (WritesMatch step haystack) first all last
       → last.text.items ++ slice_range haystack last.at (length haystack)
-      ≡ first.text.items ++ replaced haystack replacements first.at all
+      ≡ first.text.items ++ replaced_by bytes_for haystack first.at all
   written_behind first last [] held nothing stays =
       ap (λ (w : WritingValue F). w.text.items ++ slice_range haystack w.at (length haystack)) (sym stays)
   written_behind first last (found ∷ more) held greedy run =
       let next = run.0 in
       let one = run.1 in
-      let replacement = pattern_at replacements found.pattern in
+      let replacement = bytes_for found in
       let between = slice_range haystack first.at found.start in
-      let rest = replaced haystack replacements found.end more in
+      let rest = replaced_by bytes_for haystack found.end more in
       let called = writes first.writer found one.bytes one.before one.behind next.writer held
-      greedy.0.occurs.is_pattern one.calls in
+      (is_occurrence greedy.0) one.are_matched one.calls in
       let items_are : next.text.items ≡ (first.text.items ++ between) ++ replacement =
       ap (λ (v : Vec ℕ). v.items) (sym one.leaves)
       ∙ (called.1 ∙ ap (λ items. items ++ replacement) one.between) in
       let greedy_on = subst (λ at. IsGreedy searched.query searched.ignore_case haystack at more) (sym one.goes_on)
       greedy.1 in
       written_behind next last more called.0 greedy_on run.2
-      ∙ (ap (λ items. items ++ replaced haystack replacements next.at more) items_are
-      ∙ (ap (λ at. ((first.text.items ++ between) ++ replacement) ++ replaced haystack replacements at more) one.goes_on
+      ∙ (ap (λ items. items ++ replaced_by bytes_for haystack next.at more) items_are
+      ∙ (ap (λ at. ((first.text.items ++ between) ++ replacement) ++ replaced_by bytes_for haystack at more) one.goes_on
       ∙ (append_assoc (first.text.items ++ between) replacement rest
       ∙ append_assoc first.text.items between (replacement ++ rest))))
 
--- what calls write that put the replacement of its pattern behind what was there, at each match, is the text with these
--- replacements
+-- what calls write that put the bytes that a function gives for a match behind what was there is the text with these
+pub written_by_calls : {F : Type 0}
+    {step : F → MatchValue → Bor (List ℕ) → MutBor (Vec ℕ) → Result ⊤ AllocError → MutBor (Vec ℕ) → F → Type 0}
+    {searched : SearchValue} {haystack : List ℕ} {writer : F} {answer : List ℕ}
+    → (written : IsWritten step searched haystack writer answer) → (bytes_for : MatchValue → List ℕ)
+    → (holds : F → Type 0) → holds writer
+    → ((f : F) (found : MatchValue) (bytes : Bor (List ℕ)) (before behind : MutBor (Vec ℕ)) (next : F) → holds f
+    → IsOccurrence searched.query.patterns searched.ignore_case haystack (whole_of haystack) found
+    → bytes.now ≡ slice_range haystack found.start found.end → step f found bytes before (Ok tt) behind next
+    → holds next × (behind.now.items ≡ before.now.items ++ bytes_for found))
+    → answer ≡ replaced_by bytes_for haystack 0 written.matches
+written_by_calls {step = step} {searched = searched} {haystack = haystack} written bytes_for holds held writes =
+    written.ends
+    ∙ (written_behind step searched haystack bytes_for holds writes written.first written.last written.matches
+    (subst holds (sym written.begins.0) held)
+    (subst (λ at. IsGreedy searched.query searched.ignore_case haystack at written.matches)
+    (sym written.begins.2) written.are_greedy) written.is_written
+    ∙ (ap (λ items. items ++ replaced_by bytes_for haystack written.first.at written.matches) written.begins.1
+    ∙ ap (λ at. replaced_by bytes_for haystack at written.matches) written.begins.2))
+
+-- so they replace each match, if that is the replacement of its pattern
 pub replaced_by_calls : {F : Type 0}
     {step : F → MatchValue → Bor (List ℕ) → MutBor (Vec ℕ) → Result ⊤ AllocError → MutBor (Vec ℕ) → F → Type 0}
     {searched : SearchValue} {haystack : List ℕ} {writer : F} {answer : List ℕ}
@@ -288,20 +387,14 @@ pub replaced_by_calls : {F : Type 0}
     → found.pattern < length searched.query.patterns → step f found bytes before (Ok tt) behind next
     → holds next × (behind.now.items ≡ before.now.items ++ pattern_at replacements found.pattern))
     → IsReplaced searched haystack replacements answer
-replaced_by_calls {step = step} {searched = searched} {haystack = haystack} written replacements one_for_each holds held
-    writes =
-    record {
-      one_for_each = one_for_each;
-      matches = written.matches;
-      are_greedy = written.are_greedy;
-      is_replaced = written.ends
-          ∙ (written_behind step searched haystack replacements holds writes written.first written.last written.matches
-          (subst holds (sym written.begins.0) held)
-          (subst (λ at. IsGreedy searched.query searched.ignore_case haystack at written.matches)
-          (sym written.begins.2) written.are_greedy) written.is_written
-          ∙ (ap (λ items. items ++ replaced haystack replacements written.first.at written.matches) written.begins.1
-          ∙ ap (λ at. replaced haystack replacements at written.matches) written.begins.2));
-    }
+replaced_by_calls written replacements one_for_each holds held writes = record {
+  one_for_each = one_for_each;
+  matches = written.matches;
+  are_greedy = written.are_greedy;
+  is_replaced = written_by_calls written (λ found. pattern_at replacements found.pattern) holds held
+      (λ f found bytes before behind next held is _ called.
+      writes f found bytes before behind next held is.occurs.is_pattern called);
+}
 
 -- no pattern is longer than the longest
 pub within_longest : (patterns : List (List ℕ)) (i : ℕ) → length (pattern_at patterns i) ≤ longest_of patterns

@@ -56,26 +56,26 @@ module _ (ignore_case : Bool) (classes : List ℕ) (patterns : List (List ℕ)) 
     valid_part : (from at : ℕ) → from ≤ at → at ≤ span.end → IsValidSpan haystack (between from at)
     valid_part from at after inside = grind arith
 
-    -- an occurrence is a suffix of what is read up to its end, from no place behind its start on
-    pub occurrence_ends : (from i place end : ℕ) → from ≤ place → end ≡ place + length (pattern_at patterns i)
-        → Occurs patterns ignore_case haystack span i place
+    -- an occurrence is a suffix of what is read up to its end, from no offset behind its start on
+    pub occurrence_ends : (from i offset end : ℕ) → from ≤ offset → end ≡ offset + length (pattern_at patterns i)
+        → Occurs patterns ignore_case haystack span i offset
         → IsSuffix words (text_of classes haystack (between from end)) i
-    occurrence_ends from i place end after whole o =
+    occurrence_ends from i offset end after whole o =
         let here = between from end in
         let valid_here = valid_part from end (omega arith) (omega arith) in
         let text = text_of classes haystack here in
         let word = pattern_at words i in
-        let stands = stands_where ignore_case classes patterns tells haystack bytes here valid_here i place
+        let stands = stands_where ignore_case classes patterns tells haystack bytes here valid_here i offset
         (grind arith) in
         let long = text_long ignore_case classes patterns tells haystack bytes here valid_here in
         let size = symbols_length classes patterns i in
-        let same : drop (place - from) text ≡ word =
+        let same : drop (offset - from) text ≡ word =
         grind (arith, whole_if_long, length-drop)
         in
         record {
           is_pattern = omega (arith, known, o.is_pattern);
           ends = record {
-            prefix = take (place - from) text;
+            prefix = take (offset - from) text;
             split = grind (arith, take-append-drop);
           };
         }
@@ -96,7 +96,7 @@ module _ (ignore_case : Bool) (classes : List ℕ) (patterns : List (List ℕ)) 
         let long = text_long ignore_case classes patterns tells haystack bytes here valid_here in
         let size = symbols_length classes patterns i in
         let parts_long = ends_length text word is.ends in
-        let place : length prefix ≡ start - from = omega (arith, long, size, parts_long) in
+        let long_is : length prefix ≡ start - from = omega (arith, long, size, parts_long) in
         let same : drop (start - from) text ≡ word =
         grind (arith, drop-append_seam) in
         let stands : starts_with nat_eq (drop (start - from) text) word ≡ true =
@@ -106,24 +106,25 @@ module _ (ignore_case : Bool) (classes : List ℕ) (patterns : List (List ℕ)) 
         grind arith
 
     -- where the live suffix is empty, no occurrence that ends further on has begun
-    pub begins_behind : (from at i place : ℕ) → from ≤ at → from ≤ place → at < place + length (pattern_at patterns i)
+    pub begins_behind : (from at i offset : ℕ) → from ≤ at → from ≤ offset
+        → at < offset + length (pattern_at patterns i)
         → at ≤ span.end
         → live_suffix words (text_of classes haystack (between from at)) ≡ []
-        → Occurs patterns ignore_case haystack span i place → at ≤ place
-    begins_behind from at i place begin after further inside live o =
-        elim (cases_lt place at) [
+        → Occurs patterns ignore_case haystack span i offset → at ≤ offset
+    begins_behind from at i offset begin after further inside live o =
+        elim (cases_lt offset at) [
           | inr not ↦ not
           | inl early ↦
-              let end = place + length (pattern_at patterns i) in
+              let end = offset + length (pattern_at patterns i) in
               let here = between from end in
               let read = text_of classes haystack (between from at) in
               let more = text_of classes haystack (between at end) in
-              let k = place - from in
+              let k = offset - from in
               let word = pattern_at words i in
               let long = text_length classes haystack from at begin (omega arith) in
               let within : k < length read = omega arith in
               let stands = stands_where ignore_case classes patterns tells haystack bytes here
-              (valid_part from end (omega arith) (omega arith)) i place (grind arith) in
+              (valid_part from end (omega arith) (omega arith)) i offset (grind arith) in
               let split : drop k (text_of classes haystack here) ≡ drop k read ++ more =
               ap (drop k) (text_halves classes haystack from at end begin (omega arith))
               ∙ drop-append-le k read more (omega arith) in

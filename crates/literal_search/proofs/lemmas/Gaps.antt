@@ -38,9 +38,9 @@ module _ (p : BackTables) (are : AreBackTables p) (haystack : List ℕ) (bytes :
           let valid : IsValidSpan haystack (between start end) =
           record { ordered = omega (arith, o.after_start, o.before_end); in_haystack = inside } in
           let byte = get_or (pattern_at p.search.query.patterns i) k 0 in
-          let place : at + k ≡ gap = omega (arith, before) in
+          let at_is : at + k ≡ gap = omega (arith, before) in
           let same = subst (λ n. folded p.search.ignore_case (get_or haystack n 0) ≡ folded p.search.ignore_case byte)
-          place (same_folded p.search.ignore_case (get_or haystack (at + k) 0) byte
+          at_is (same_folded p.search.ignore_case (get_or haystack (at + k) 0) byte
           (bytes_at p.search.query.patterns p.search.ignore_case haystack (between start end) valid i at o k within)) in
           let class = (are.tells i k (get_or haystack gap 0) o.is_pattern within (bytes gap)).1 same in
           absurd (omega (arith, class, is, are.last few i k o.is_pattern within))

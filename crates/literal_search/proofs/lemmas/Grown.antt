@@ -165,11 +165,11 @@ pub list_longer : (patterns : List (List ℕ)) (word : List ℕ) (symbol : ℕ)
 list_longer patterns word symbol = grind (arith, filter_filter, starts_longer)
 
 -- what an element of a part of a list is mapped to
-pub mapped_at : (tells : ℕ → ℕ) (xs : List ℕ) (start end place x : ℕ) → start ≤ place → place < end → end ≤ length xs
-    → x ≡ get_or xs place x → get_or (map tells (slice_range xs start end)) (place - start) 0 ≡ tells x
-mapped_at tells xs start end place x after before inside is =
-    let long : place - start < length (slice_range xs start end) = grind (arith, common_steps) in
-    get_or-map tells (slice_range xs start end) (place - start) x 0 long
+pub mapped_at : (tells : ℕ → ℕ) (xs : List ℕ) (start end index x : ℕ) → start ≤ index → index < end → end ≤ length xs
+    → x ≡ get_or xs index x → get_or (map tells (slice_range xs start end)) (index - start) 0 ≡ tells x
+mapped_at tells xs start end index x after before inside is =
+    let long : index - start < length (slice_range xs start end) = grind (arith, common_steps) in
+    get_or-map tells (slice_range xs start end) (index - start) x 0 long
     ∙ ap tells (grind (arith, common_steps))
 
 -- a text goes on with a symbol if that comes next
@@ -240,38 +240,38 @@ module _ (patterns : List (List ℕ)) (word : List ℕ) where
       equal : List ℕ → Bool
       equal pattern = starts_with nat_eq pattern word && starts_with nat_eq word pattern
 
-      by_place : (place : ℕ) → place ≡ position_or_len (λ i. equal (pattern_at patterns i)) numbers
-          → cond (ltb place (length (map (pattern_at patterns) numbers))) (Some place) None
+      by_place : (index : ℕ) → index ≡ position_or_len (λ i. equal (pattern_at patterns i)) numbers
+          → cond (ltb index (length (map (pattern_at patterns) numbers))) (Some index) None
           ≡ position (λ i. equal (pattern_at patterns i)) numbers
-      by_place place is =
-          ap (λ n. cond (ltb place n) (Some place) None) (length-map numbers (pattern_at patterns))
+      by_place index is =
+          ap (λ n. cond (ltb index n) (Some index) None) (length-map numbers (pattern_at patterns))
           ∙ ap (λ p. cond (ltb p (length numbers)) (Some p) None) is
 
 -- the list of the empty word has all patterns
 pub list_of_empty : (patterns : List (List ℕ)) → list_for patterns [] ≡ range_with_len 0 (length patterns)
 list_of_empty patterns = grind (arith, filter_all, starts_is)
 
--- a list that is filtered from a place in lists on: what is added and found so far, and what is left
-module _ (goes : ℕ → Bool) (old : List ℕ) (start end place x : ℕ) (before : place < end)
-    (inside : end ≤ length old) (read : x ≡ get_or old place x) where
+-- a list that is filtered from an index in lists on: what is added and found so far, and what is left
+module _ (goes : ℕ → Bool) (old : List ℕ) (start end index x : ℕ) (before : index < end)
+    (inside : end ≤ length old) (read : x ≡ get_or old index x) where
   rest : List ℕ
-  rest = slice_range old (place + 1) end
+  rest = slice_range old (index + 1) end
 
-  rest_is : slice_range old place end ≡ x ∷ rest
+  rest_is : slice_range old index end ≡ x ∷ rest
   unfolding rest
   rest_is = grind (arith, range_more)
 
-  filter_step : filter goes (slice_range old place end) ≡ (if goes x then x ∷ [] else []) ++ filter goes rest
+  filter_step : filter goes (slice_range old index end) ≡ (if goes x then x ∷ [] else []) ++ filter goes rest
   filter_step = grind (arith, rest_is)
 
   pub added_more : (lists longer : List ℕ) → longer ≡ lists ++ (if goes x then x ∷ [] else [])
-      → lists ++ filter goes (slice_range old place end) ≡ old ++ filter goes (slice_range old start end)
-      → longer ++ filter goes (slice_range old (place + 1) end) ≡ old ++ filter goes (slice_range old start end)
+      → lists ++ filter goes (slice_range old index end) ≡ old ++ filter goes (slice_range old start end)
+      → longer ++ filter goes (slice_range old (index + 1) end) ≡ old ++ filter goes (slice_range old start end)
   unfolding rest
   added_more lists longer is so_far = grind (arith, append_assoc, filter_step)
 
   module _ (whole : ℕ → Bool) where
-    found_is : find whole (filter goes (slice_range old place end))
+    found_is : find whole (filter goes (slice_range old index end))
         ≡ (if goes x && whole x then Some x else find whole (filter goes rest))
     found_is = grind (arith, rest_is, rest)
 
@@ -280,17 +280,17 @@ module _ (goes : ℕ → Bool) (old : List ℕ) (start end place x : ℕ) (befor
     found_or found later = grind arith
 
     pub found_yet : (found found' : Option ℕ) → found' ≡ option_or found (Some x) → (goes x && whole x) ≡ true
-        → option_or found (find whole (filter goes (slice_range old place end)))
+        → option_or found (find whole (filter goes (slice_range old index end)))
         ≡ find whole (filter goes (slice_range old start end))
-        → option_or found' (find whole (filter goes (slice_range old (place + 1) end)))
+        → option_or found' (find whole (filter goes (slice_range old (index + 1) end)))
         ≡ find whole (filter goes (slice_range old start end))
     unfolding rest
     found_yet found found' is both so_far = grind (arith, rest, found_or, found_is, cond-true)
 
     pub found_none : (found found' : Option ℕ) → found' ≡ found → (goes x && whole x) ≡ false
-        → option_or found (find whole (filter goes (slice_range old place end)))
+        → option_or found (find whole (filter goes (slice_range old index end)))
         ≡ find whole (filter goes (slice_range old start end))
-        → option_or found' (find whole (filter goes (slice_range old (place + 1) end)))
+        → option_or found' (find whole (filter goes (slice_range old (index + 1) end)))
         ≡ find whole (filter goes (slice_range old start end))
     unfolding rest
     found_none found found' is none so_far = grind (arith, rest, found_is, cond-false)

@@ -61,8 +61,8 @@ pub scans_whole_from_yields : (m : MatchesValue × Counts) (all : List MatchValu
     × ScansListAtMost m.0.search.query.patterns (m.0.span.end - m.0.span.start) (length all) m.1 o.1
 scans_whole_from_yields m all n o at known run last =
     elim (cases_lt LEAST (longest_of m.0.search.query.patterns)) [
-      | inl long ↦ subst (λ place. (m.1.scanned + (m.0.span.end - place) ≤ o.1.scanned)
-          × ScansListAtMost m.0.search.query.patterns (m.0.span.end - place) (length all) m.1 o.1) at
+      | inl long ↦ subst (λ offset. (m.1.scanned + (m.0.span.end - offset) ≤ o.1.scanned)
+          × ScansListAtMost m.0.search.query.patterns (m.0.span.end - offset) (length all) m.1 o.1) at
           (scans_list_from_yields m all n o long run last)
       | inr short ↦
           let most = scans_thrice_from_yields m all n o short run last in

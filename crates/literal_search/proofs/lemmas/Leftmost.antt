@@ -1,4 +1,4 @@
--- What walks through parts of a span tell of the places of the parts.
+-- What walks through parts of a span tell of the offsets of the parts.
 use Rattle.std.proofs.Common.{◌≡◌, ℕ, ◌+◌, ◌*◌, ◌<◌, ◌≤◌, ◌⊎◌, ◌^◌, ◌%◌, List, Option, Some, None, arith}
 use Rattle.std.proofs.Common.{◌∙◌, IfSome, Err, Ok, Result, ap, false, is_some, get_or, inl, inr, length, set}
 use Rattle.std.proofs.Common.{subst, sym, true}
@@ -10,19 +10,19 @@ use Rattle.literal_base.specs.Leftmost.{IsLeftmostMatch}
 use Rattle.literal_base.specs.MatchValue.{MatchValue}
 use Rattle.literal_base.specs.Occurs.{between}
 use Rattle.literal_base.specs.declared.search.Span.{Span}
-use Rattle.literal_search.specs.Inside.Backward.{AreBackFor, AreMarks, IsMark, NoneBeginsAt, NoneFrom, StandsDown}
+use Rattle.literal_search.specs.Inside.Backward.{AreBackFor, AreMarks, HasReadBack, IsMark, NoneBeginsAt, NoneFrom}
 use Rattle.literal_search.specs.Inside.Backward.{back_tables_by}
-use Rattle.literal_search.specs.Inside.Leftmost.{AreLanes, AreMarksBehind, AreSteps, HaveRows, IsFirstBegun, IsLane}
+use Rattle.literal_search.specs.Inside.Leftmost.{AreLanes, AreMarksAfter, AreSteps, HaveRows, IsFirstStart, IsLane}
 use Rattle.literal_fingerprints.specs.CandidateScans.{ahead_by_pair}
 use Rattle.literal_fingerprints.specs.declared.candidates.CandidateScan.{CandidateScan}
 use Rattle.literal_fingerprints.specs.declared.pair.RarePair.{RarePair}
 use Rattle.literal_search.specs.Inside.Leftmost.{IsLimit, ahead_by}
-use Rattle.literal_search.specs.Inside.Leftmost.{IsStep, NoneBehind}
+use Rattle.literal_search.specs.Inside.Leftmost.{IsStep, NoneAfter}
 use Rattle.literal_search.specs.Inside.Leftmost.{ReadsFor}
 use Rattle.literal_search.specs.Prepared.{AreBackTables, BackTables}
 use Rattle.literal_search.specs.SearchValue.{SearchValue}
 use Rattle.literal_search.specs.declared.backward.Backward.{Backward}
-use Rattle.literal_search.specs.declared.backward.Begun.{Begun}
+use Rattle.literal_search.specs.declared.backward.PatternStart.{PatternStart}
 use Rattle.literal_search.specs.declared.leftmost.Lanes.{Lanes}
 use Rattle.literal_search.specs.declared.prepared.Damaged.{Damaged}
 use Rattle.literal_search.proofs.lemmas.Backward.{mark_in, read_one, stands_nowhere}
@@ -44,15 +44,15 @@ lane_begins p are haystack bytes span end from at same inside far = grind (arith
 
 -- a walk reads one byte more
 pub lane_step : (p : BackTables) → AreBackTables p → (haystack : List ℕ) → ((i : ℕ) → get_or haystack i 0 < 256)
-    → (span : Span) → span.end ≤ length haystack → (end next at to place code : ℕ) → next ≡ at + 1 → to ≡ at
-    → IsLane p haystack span end next place
-    → code ≡ get_or p.rows (place + get_or p.classes (get_or haystack at 0) 0) 0 → IsStep p haystack span end to code
-lane_step p are haystack bytes span valid end next at to place code next_is to_is lane is =
+    → (span : Span) → span.end ≤ length haystack → (end next at to row code : ℕ) → next ≡ at + 1 → to ≡ at
+    → IsLane p haystack span end next row
+    → code ≡ get_or p.rows (row + get_or p.classes (get_or haystack at 0) 0) 0 → IsStep p haystack span end to code
+lane_step p are haystack bytes span valid end next at to row code next_is to_is lane is =
     let after = lane.after in
     let inside = lane.inside in
-    let one = read_one p are haystack bytes lane.from at place code (omega (arith, after, next_is))
+    let one = read_one p are haystack bytes lane.from at row code (omega (arith, after, next_is))
     (omega (arith, inside, valid))
-    (subst (λ n. StandsDown p haystack lane.from n place) next_is lane.stands) is in
+    (subst (λ n. HasReadBack p haystack lane.from n row) next_is lane.stands) is in
     let far : at < end → (lane.from ≡ span.end) ⊎ (at + p.longest ≤ lane.from) = λ before. elim lane.far [
       | inl all ↦ inl all
       | inr near ↦ inr (omega (arith, near, before))
@@ -68,10 +68,10 @@ lane_step p are haystack bytes span valid end next at to place code next_is to_i
       mark = λ before. mark_in p are haystack span.end at lane.from inside (far before) code one.mark;
     })
 
--- the same place, written in another way
-pub lane_there : (p : BackTables) (haystack : List ℕ) (span : Span) (end at to place : ℕ) → at ≡ to
-    → IsLane p haystack span end at place → IsLane p haystack span end to place
-lane_there p haystack span end at to place same lane = subst (λ n. IsLane p haystack span end n place) same lane
+-- the same offset, written in another way
+pub lane_there : (p : BackTables) (haystack : List ℕ) (span : Span) (end at to row : ℕ) → at ≡ to
+    → IsLane p haystack span end at row → IsLane p haystack span end to row
+lane_there p haystack span end at to row same lane = subst (λ n. IsLane p haystack span end n row) same lane
 
 -- a number below 2^31 leads to itself
 pub lane_small : (p : BackTables) (haystack : List ℕ) (span : Span) (end at code : ℕ) → code < 2 ^ 31
@@ -97,18 +97,18 @@ module _ (p : BackTables) (haystack : List ℕ) (span : Span) (end at code : ℕ
     none_more upto next next_is small none = λ k after less.
         grind (arith, cases_lt)
 
-    none_here : (upto next : ℕ) → next ≡ at + 1 → code < 2 ^ 31 → (first : Option Begun)
-        → IsFirstBegun p haystack span.end (between next upto) first
-        → IsFirstBegun p haystack span.end (between at upto) first
+    none_here : (upto next : ℕ) → next ≡ at + 1 → code < 2 ^ 31 → (first : Option PatternStart)
+        → IsFirstStart p haystack span.end (between next upto) first
+        → IsFirstStart p haystack span.end (between at upto) first
     none_here upto next next_is small None none = none_more upto next next_is small none
     none_here upto next next_is small (Some begun) first =
         (first.0, none_more begun.at next next_is small first.1)
 
-    -- what is then the first place at which one begins
-    pub first_on : (upto next : ℕ) → next ≡ at + 1 → (first result : Option Begun)
+    -- what is then the first offset at which one begins
+    pub first_on : (upto next : ℕ) → next ≡ at + 1 → (first result : Option PatternStart)
         → (2 ^ 31 ≤ code → result ≡ Some (record { at = at; code = code })) → (code < 2 ^ 31 → result ≡ first)
-        → IsFirstBegun p haystack span.end (between next upto) first
-        → IsFirstBegun p haystack span.end (between at upto) result
+        → IsFirstStart p haystack span.end (between next upto) first
+        → IsFirstStart p haystack span.end (between at upto) result
     first_on upto next next_is first result begins none behind = grind (arith, cases_lt, none_here)
 
 -- four walks read a number each at once
@@ -174,11 +174,11 @@ module _ (p : BackTables) (haystack : List ℕ) (span : Span) (at part left limi
     lanes_on = grind (arith, first_row, fourth_row, lane_small, second_row, third_row)
 
     -- and nothing begins there
-    pub none_on_four : (next : ℕ) → next ≡ left + 1 → left < part → NoneBehind p haystack span.end at part next
-        → NoneBehind p haystack span.end at part left
+    pub none_on_four : (next : ℕ) → next ≡ left + 1 → left < part → NoneAfter p haystack span.end at part next
+        → NoneAfter p haystack span.end at part left
     none_on_four next next_is before none = grind (arith, first_row, fourth_row, none_more, second_row, third_row)
 
--- where nothing begins before a place, the match that begins there is the leftmost
+-- where nothing begins before an offset, the match that begins there is the leftmost
 pub leftmost_from : (p : BackTables) (haystack : List ℕ) (span : Span) (at : ℕ) (found : MatchValue)
     → span.start ≤ at → NoneFrom p haystack span.end span.start at → found.start ≡ at
     → IsLeftmostMatch p.search.query p.search.ignore_case haystack (between at span.end) found
@@ -193,38 +193,38 @@ none_on p haystack end from at upto before behind = λ k after less. elim (cases
   | inr late ↦ behind k late less
 ]
 
--- what is the first place of a part is that of a longer one, where nothing begins before the part
+-- what is the first offset of a part is that of a longer one, where nothing begins before the part
 pub part_on : (p : BackTables) (haystack : List ℕ) (end from start upto : ℕ) → NoneFrom p haystack end from start
-    → (first : Option Begun) → IsFirstBegun p haystack end (between start upto) first
-    → IsFirstBegun p haystack end (between from upto) first
+    → (first : Option PatternStart) → IsFirstStart p haystack end (between start upto) first
+    → IsFirstStart p haystack end (between from upto) first
 part_on p haystack end from start upto before None none = none_on p haystack end from start upto before none
 part_on p haystack end from start upto before (Some begun) first =
     (first.0, none_on p haystack end from start begun.at before first.1)
 
--- nothing begins in a part that has no first such place
-pub no_first : (p : BackTables) (haystack : List ℕ) (end start upto : ℕ) (first : Option Begun)
-    → is_some first ≡ false → IsFirstBegun p haystack end (between start upto) first
+-- nothing begins in a part that has no first such offset
+pub no_first : (p : BackTables) (haystack : List ℕ) (end start upto : ℕ) (first : Option PatternStart)
+    → is_some first ≡ false → IsFirstStart p haystack end (between start upto) first
     → NoneFrom p haystack end start upto
 no_first p haystack end start upto None none is = is
 no_first p haystack end start upto (Some begun) some is = absurd (false≢true (sym some))
 
 -- and if it has one, that is the first of a part that ends elsewhere
-pub some_first : (p : BackTables) (haystack : List ℕ) (end start upto other : ℕ) (first : Option Begun)
-    → is_some first ≡ true → IsFirstBegun p haystack end (between start upto) first
-    → IsFirstBegun p haystack end (between start other) first
+pub some_first : (p : BackTables) (haystack : List ℕ) (end start upto other : ℕ) (first : Option PatternStart)
+    → is_some first ≡ true → IsFirstStart p haystack end (between start upto) first
+    → IsFirstStart p haystack end (between start other) first
 some_first p haystack end start upto other None some is = absurd (false≢true some)
 some_first p haystack end start upto other (Some begun) some is = is
 
 -- what is looked up for it, if there is one
-pub found_reads : (longest : ℕ) (span : Span) (old new : ℕ) (first : Option Begun) → is_some first ≡ true
+pub found_reads : (longest : ℕ) (span : Span) (old new : ℕ) (first : Option PatternStart) → is_some first ≡ true
     → IfSome first (λ begun. ReadsFor longest span old new (Some begun)) → ReadsFor longest span old new first
 found_reads longest span old new None some reads = absurd (false≢true some)
 found_reads longest span old new (Some begun) some reads = reads
 
 pub ok_part_on : (p : BackTables) (haystack : List ℕ) (end from start upto : ℕ) → NoneFrom p haystack end from start
-    → (result : Result (Option Begun) Damaged)
-    → IsOkAnd result (IsFirstBegun p haystack end (between start upto))
-    → IsOkAnd result (IsFirstBegun p haystack end (between from upto))
+    → (result : Result (Option PatternStart) Damaged)
+    → IsOkAnd result (IsFirstStart p haystack end (between start upto))
+    → IsOkAnd result (IsFirstStart p haystack end (between from upto))
 ok_part_on p haystack end from start upto before (Ok first) is = part_on p haystack end from start upto before first is
 ok_part_on p haystack end from start upto before (Err damaged) is = is
 
@@ -234,7 +234,7 @@ pub one_more : (a b : Counts) → a ≡ b
     ≡ (let t : Counts = record b { scanned = b.scanned + 1 } in t)
 one_more a b same = ap (λ (n : Counts). let n' : Counts = record n { scanned = n.scanned + 1 } in n') same
 
--- a mark in another place stays
+-- a mark in another offset stays
 pub marks_kept : (p : BackTables) (haystack : List ℕ) (end : ℕ) (marks : List ℕ) (at from upto slot code : ℕ)
     → at ≤ from
     → (at + slot < from) ⊎ (upto ≤ at + slot) → AreMarks p haystack end marks at from upto
@@ -255,11 +255,11 @@ set_four marks step part codes =
     set (set (set (set marks step codes.first) (step + part) codes.second) (step + 2 * part) codes.third)
     (step + 3 * part) codes.fourth
 
--- those of the numbers that four walks read are marks of one place more of each part
+-- those of the numbers that four walks read are marks of one offset more of each part
 pub marks_in_four : (p : BackTables) (haystack : List ℕ) (span : Span) (at part step next : ℕ) (marks : List ℕ)
     (codes : Lanes) → next ≡ step + 1 → next ≤ part → 4 * part ≤ length marks
-    → AreSteps p haystack span at part step codes → AreMarksBehind p haystack span.end marks at part next
-    → AreMarksBehind p haystack span.end (set_four marks step part codes) at part step
+    → AreSteps p haystack span at part step codes → AreMarksAfter p haystack span.end marks at part next
+    → AreMarksAfter p haystack span.end (set_four marks step part codes) at part step
 marks_in_four p haystack span at part step next marks codes next_is before room steps are =
     let end = span.end in
     let marks1 = set marks step codes.first in
@@ -311,13 +311,13 @@ marks_in_four p haystack span at part step next marks codes next_is before room 
           (inl (omega (arith, before, next_is))) are.fourth)));
     }
 
--- of cleared marks each says that nothing begins, which is so behind some places of each part
+-- of cleared marks each says that nothing begins, which is so behind some offsets of each part
 pub cleared_marks : (p : BackTables) (haystack : List ℕ) (end : ℕ) (marks : List ℕ) (at part left : ℕ)
-    → ((k : ℕ) → k < 4 * part → get_or marks k 0 ≡ 0) → NoneBehind p haystack end at part left
-    → AreMarksBehind p haystack end marks at part left
+    → ((k : ℕ) → k < 4 * part → get_or marks k 0 ≡ 0) → NoneAfter p haystack end at part left
+    → AreMarksAfter p haystack end marks at part left
 cleared_marks p haystack end marks at part left cleared none = grind arith
 
--- and marks of all places of each part are those of a block
+-- and marks of all offsets of each part are those of a block
 pub marks_of_four : (p : BackTables) (haystack : List ℕ) (end : ℕ) (marks : List ℕ) (at part : ℕ)
-    → AreMarksBehind p haystack end marks at part 0 → AreMarks p haystack end marks at at (at + 4 * part)
+    → AreMarksAfter p haystack end marks at part 0 → AreMarks p haystack end marks at at (at + 4 * part)
 marks_of_four p haystack end marks at part are k after before = grind (arith, cases_lt)

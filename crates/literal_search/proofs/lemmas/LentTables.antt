@@ -16,29 +16,29 @@ use Rattle.literal_search.specs.Inside.LentTables.{AreFor, AreLent, IsNextBy, Is
 use Rattle.literal_search.specs.Inside.Prepared.{IsHeader, header_table, numbers_for}
 use Rattle.literal_search.specs.Inside.Rows.{rows_of}
 use Rattle.literal_search.specs.Inside.Scan.{IsTableFor}
-use Rattle.literal_search.specs.Inside.Standing.{IsStanding, longest_at, standing_at}
-use Rattle.literal_search.specs.Inside.NextEnd.{FindsNext, IsNextStop, Stands}
+use Rattle.literal_search.specs.Inside.Position.{IsPosition, longest_at, position_at}
+use Rattle.literal_search.specs.Inside.NextEnd.{FindsNext, IsNextWalkEnd, IsWalkAt}
 use Rattle.literal_search.specs.Inside.Walk.{classes_by, rows_by}
 use Rattle.literal_search.specs.Overlapping.{OverlappingValue}
 use Rattle.literal_search.specs.PreparedOverlapping.{AreSized, AreTables}
 use Rattle.literal_search.specs.PreparedOverlapping.{IsPreparedOverlapping, Tables, tables_in}
 use Rattle.literal_search.specs.PreparedOverlapping.{TakesListedPlaces, ends_at, ends_in, overlapping_value}
-use Rattle.literal_search.specs.PreparedOverlapping.{listed_len, overlapping_len, prints_behind, starts_in}
+use Rattle.literal_search.specs.PreparedOverlapping.{listed_len, overlapping_len, prints_after, starts_in}
 use Rattle.literal_search.specs.Prepared.{ArePrints, classes_end, scan_by, rows_at, past_skipped}
 use Rattle.literal_search.specs.declared.prepared.Header.{Header}
 use Rattle.literal_search.specs.declared.prepared.Damaged.{Damaged}
 use Rattle.literal_search.specs.declared.prepared.TheConstants.{SCAN_LEN, OVERLAPPING_VERSION}
 use Rattle.literal_search.specs.declared.prepared_overlapping.LentTables.{LentTables}
-use Rattle.literal_search.specs.declared.standing.Standing.{Standing}
-use Rattle.literal_search.specs.declared.walk.Stop.{Stop}
+use Rattle.literal_search.specs.declared.position.Position.{Position}
+use Rattle.literal_search.specs.declared.walk.WalkEnd.{WalkEnd}
 use Rattle.literal_search.specs.declared.walk.Table.{Table}
 use Rattle.literal_search.proofs.lemmas.Numbers.{check_written, classes_written, ends_written, lengths_written}
 use Rattle.literal_search.proofs.lemmas.Numbers.{numbers_long, rows_written}
 use Rattle.literal_search.proofs.lemmas.Numbers.{part_at, starts_written}
 use Rattle.literal_search.proofs.lemmas.Prepared.{length_part, rows_are}
 use Rattle.literal_search.proofs.lemmas.Scan.{also_ok}
-use Rattle.literal_search.proofs.lemmas.Standing.{is_pattern, longest_below, next_is, none_to_come, nothing_to_come}
-use Rattle.literal_search.proofs.lemmas.Standing.{row_inside, same_to_come, some_left, stands_next, stands_there}
+use Rattle.literal_search.proofs.lemmas.Position.{is_pattern, longest_below, next_is, none_to_come, nothing_to_come}
+use Rattle.literal_search.proofs.lemmas.Position.{row_inside, same_to_come, some_left, stands_next, stands_there}
 
 -- tables of a search whose parts are equal
 pub same_tables : (search : OverlappingValue) (classes classes' : List ℕ) (width width' : ℕ)
@@ -99,15 +99,15 @@ pub lengths_many : {p : LentTables} → AreLent p → length p.header.lengths.no
 lengths_many {p} lent = (parts_end p.header p.header.numbers.now refl lent.header).1
 
 -- where a walk finds the next end, if there is one: its row and list lie in the tables
-abbrev pub IsFoundThere : Tables → List ℕ → Span → Standing → Option Stop → Type 0
+abbrev pub IsFoundThere : Tables → List ℕ → Span → Position → Option WalkEnd → Type 0
 IsFoundThere t haystack span s answer = MatchOption answer (IsNextEnd t haystack span s None)
-    (λ stop. (stop.place + t.width < length t.rows) × (longest_at t stop + 1 < length t.starts)
-    × IsNextEnd t haystack span s (Some (standing_at t stop)))
+    (λ stop. (stop.row + t.width < length t.rows) × (longest_at t stop + 1 < length t.starts)
+    × IsNextEnd t haystack span s (Some (position_at t stop)))
 
 -- where a search by the parts stands
 module _ {search : OverlappingValue} {p : LentTables} (are : AreFor search p) (haystack : List ℕ)
-    (bytes : (i : ℕ) → get_or haystack i 0 < 256) (span : Span) (valid : IsValidSpan haystack span) (s : Standing)
-    (standing : IsStanding (tables_by search p) haystack span s)
+    (bytes : (i : ℕ) → get_or haystack i 0 < 256) (span : Span) (valid : IsValidSpan haystack span) (s : Position)
+    (position : IsPosition (tables_by search p) haystack span s)
   where
     abbrev t : Tables
     t = tables_by search p
@@ -117,47 +117,47 @@ module _ {search : OverlappingValue} {p : LentTables} (are : AreFor search p) (h
     next_none empty last = record {
       stands = tt;
       more = tt;
-      to_come = nothing_to_come t are.tables haystack bytes span valid s standing empty last;
+      to_come = nothing_to_come t are.tables haystack bytes span valid s position empty last;
     }
 
     -- what a walk by it finds from there on: where it finds no end, there is none, and else the next end is where the
     -- walk stops, whose row and list lie in the array
     pub found_there : s.end ≤ s.next → s.at < span.end → (table : Table)
         → IsTableFor table search.patterns search.ignore_case → classes_by table ≡ t.classes
-        → table.width ≡ t.width → rows_by table ≡ t.rows → (result : Result (Option Stop) Damaged)
-        → FindsNext table p.prints.now haystack s.place (between s.at span.end) result
+        → table.width ≡ t.width → rows_by table ≡ t.rows → (result : Result (Option WalkEnd) Damaged)
+        → FindsNext table p.prints.now haystack s.row (between s.at span.end) result
         → IfOk result (λ answer. IfSome answer
-        (λ stop. (s.at < stop.end) × (stop.end ≤ span.end) × (stop.place < 2 ^ 32)))
+        (λ stop. (s.at < stop.end) × (stop.end ≤ span.end) × (stop.row < 2 ^ 32)))
         → IsOkAnd result (IsFoundThere t haystack span s)
     found_there empty more table is classes width rows result finds inside =
         let Finds : List ℕ → ℕ → List ℕ → Type 0 = λ c w r.
-        Stands search.patterns search.ignore_case c w r haystack span s.at (record { place = s.place; end = s.at })
-        → IsOkAnd result (IsNextStop search.patterns search.ignore_case c w r haystack span s.at) in
-        also_ok result (IsNextStop search.patterns search.ignore_case t.classes t.width t.rows haystack span s.at) _
+        IsWalkAt search.patterns search.ignore_case c w r haystack span s.at (record { row = s.row; end = s.at })
+        → IsOkAnd result (IsNextWalkEnd search.patterns search.ignore_case c w r haystack span s.at) in
+        also_ok result (IsNextWalkEnd search.patterns search.ignore_case t.classes t.width t.rows haystack span s.at) _
         (IsFoundThere t haystack span s) there
         (subst (λ r. Finds t.classes t.width r) rows
         (subst (λ w. Finds t.classes w (rows_by table)) width
         (subst (λ c. Finds c table.width (rows_by table)) classes
-        (finds search.patterns search.ignore_case is are.prints span.start))) (standing.stands more)) inside
+        (finds search.patterns search.ignore_case is are.prints span.start))) (position.stands more)) inside
       where
-        there : (answer : Option Stop)
-            → IsNextStop search.patterns search.ignore_case t.classes t.width t.rows haystack span s.at answer
-            → IfSome answer (λ stop. (s.at < stop.end) × (stop.end ≤ span.end) × (stop.place < 2 ^ 32))
+        there : (answer : Option WalkEnd)
+            → IsNextWalkEnd search.patterns search.ignore_case t.classes t.width t.rows haystack span s.at answer
+            → IfSome answer (λ stop. (s.at < stop.end) × (stop.end ≤ span.end) × (stop.row < 2 ^ 32))
             → IsFoundThere t haystack span s answer
         there None none inside = record {
           stands = tt;
           more = tt;
-          to_come = none_to_come t are.tables haystack bytes span valid s standing none empty;
+          to_come = none_to_come t are.tables haystack bytes span valid s position none empty;
         }
         there (Some stop) next (after, upto, small) =
-            let below = longest_below t are.tables haystack bytes span valid s standing stop next after upto in
+            let below = longest_below t are.tables haystack bytes span valid s position stop next after upto in
             let long = are.tables.lists.long in (
-              row_inside t are.tables haystack bytes span valid s standing stop next after upto,
+              row_inside t are.tables haystack bytes span valid s position stop next after upto,
               omega (arith, below, long),
               record {
-                stands = stands_there t are.tables haystack bytes span valid s standing stop next after upto;
-                more = some_left t are.tables haystack bytes span valid s standing stop next after upto;
-                to_come = same_to_come t are.tables haystack bytes span valid s standing stop next after upto empty;
+                stands = stands_there t are.tables haystack bytes span valid s position stop next after upto;
+                more = some_left t are.tables haystack bytes span valid s position stop next after upto;
+                to_come = same_to_come t are.tables haystack bytes span valid s position stop next after upto empty;
               },
             )
 
@@ -167,7 +167,7 @@ module _ {search : OverlappingValue} {p : LentTables} (are : AreFor search p) (h
       pattern = get_or p.ends.now s.next 0
 
       below : pattern < length search.patterns
-      below = is_pattern t are.tables haystack bytes span valid s standing left
+      below = is_pattern t are.tables haystack bytes span valid s position left
 
       length_is : get_or p.header.lengths.now pattern 0 ≡ length (pattern_at search.patterns pattern)
       length_is =
@@ -178,7 +178,7 @@ module _ {search : OverlappingValue} {p : LentTables} (are : AreFor search p) (h
       pub length_inside : (0 < get_or p.header.lengths.now pattern 0)
           × (span.start + get_or p.header.lengths.now pattern 0 ≤ s.at)
       length_inside =
-          let next = next_is t are.tables haystack bytes span valid s standing left in
+          let next = next_is t are.tables haystack bytes span valid s position left in
           let some = are.tables.kept.some pattern [] below in
           let whole = next.to_come.occurrence.whole in
           let start = next.to_come.occurrence.occurs.after_start in
@@ -186,11 +186,11 @@ module _ {search : OverlappingValue} {p : LentTables} (are : AreFor search p) (h
 
       pub next_by : (i len : ℕ) → i ≡ pattern → len ≡ get_or p.header.lengths.now i 0
           → IsNextBy t haystack span s (record { pattern = i; start = s.at - len; end = s.at })
-          (record { at = s.at; place = s.place; pattern = i + 1; next = s.next + 1; end = s.end })
+          (record { at = s.at; row = s.row; pattern = i + 1; next = s.next + 1; end = s.end })
       next_by i len i_is len_is =
-          let behind = λ (k : ℕ). let b : Standing = record {
+          let behind = λ (k : ℕ). let b : Position = record {
             at = s.at;
-            place = s.place;
+            row = s.row;
             pattern = k + 1;
             next = s.next + 1;
             end = s.end;
@@ -200,8 +200,8 @@ module _ {search : OverlappingValue} {p : LentTables} (are : AreFor search p) (h
           len_is ∙ (ap (λ k. get_or p.header.lengths.now k 0) i_is ∙ length_is) in
           subst (λ k. IsNextBy t haystack span s (found k len) (behind k)) (sym i_is)
           (subst (λ n. IsNextBy t haystack span s (found pattern n) (behind pattern)) (sym len_there) (record {
-            stands = stands_next t are.tables haystack bytes span valid s standing left;
-            next = next_is t are.tables haystack bytes span valid s standing left;
+            stands = stands_next t are.tables haystack bytes span valid s position left;
+            next = next_is t are.tables haystack bytes span valid s position left;
             goes_on = refl;
           }))
 
@@ -255,7 +255,7 @@ module _ (t : Tables) (tables : AreTables t) (prints : List ℕ) (prints_long : 
         part_at all_of start t.ends prints (ends_at all_of) (listed_len all_of) all_is
         (ends_at_is ∙ sym start_long) (ap (λ n. ends_at all_of + n) last_is)
 
-    prints_are : prints_behind all_of ≡ prints
+    prints_are : prints_after all_of ≡ prints
     prints_are =
         part_at all_of (start ++ t.ends) prints [] (listed_len all_of) (overlapping_len all_of)
         (all_is ∙ (sym (append_assoc start t.ends prints) ∙ ap (λ l. (start ++ t.ends) ++ l) (sym (append-nil prints))))
@@ -306,7 +306,7 @@ module _ {search : OverlappingValue} {numbers : List ℕ} (listed : AreListed se
       + length inside.ends + SCAN_LEN
   listed_long = grind (arith, length-map, length_part, long, whole)
 
-  -- and so many places are enough for them
+  -- and so many entries are enough for them
   pub takes_listed : TakesListedPlaces search (length numbers)
   unfolding TakesListedPlaces
   takes_listed = grind (arith, listed_long)

@@ -10,7 +10,7 @@ use Rattle.literal_fingerprints.specs.declared.candidates.CandidateScan.{Candida
 use Rattle.literal_search.specs.Prepared.{ArePrints, scan_by, past_skipped}
 use Rattle.literal_search.specs.Earliest.{IsEarliestEnd}
 use Rattle.literal_search.specs.Inside.Classes.{AreClasses, Tells, symbols_in}
-use Rattle.literal_search.specs.Inside.NextEnd.{FindsNext, HasComeTo, IsNextStop, Stands, StandsNext}
+use Rattle.literal_search.specs.Inside.NextEnd.{FindsNext, HasComeTo, IsNextWalkEnd, IsWalkAt, IsWalkAtEnd}
 use Rattle.literal_search.specs.Inside.Scan.{IsTableFor, NoneBefore}
 use Rattle.literal_search.specs.Inside.Walk.{HasReached, IsAt, IsFirstEnd, NoneEnds, ReachesWithin, classes_by, read_to}
 use Rattle.literal_search.specs.Inside.Walk.{rows_by, text_of}
@@ -19,7 +19,7 @@ use Rattle.literal_search.specs.Words.{ending, live_suffix}
 use Rattle.literal_search.specs.declared.prepared.Damaged.{Damaged}
 use Rattle.literal_search.specs.declared.walk.Reached.{Reached}
 use Rattle.literal_search.specs.declared.walk.Reached.TheVariants.{Back, Ends, Nowhere}
-use Rattle.literal_search.specs.declared.walk.Stop.{Stop}
+use Rattle.literal_search.specs.declared.walk.WalkEnd.{WalkEnd}
 use Rattle.literal_search.specs.declared.walk.Table.{Table}
 use Rattle.literal_search.proofs.lemmas.EndsFound.{begins_behind, end_occurs, nothing_read, occurrence_ends}
 use Rattle.literal_search.proofs.lemmas.Found.{some_symbols}
@@ -34,15 +34,15 @@ at_root patterns width rows recognises text at = grind arith
 -- a walk stands at the first row where it has read nothing
 pub stands_first : (patterns : List (List ℕ)) (ignore_case : Bool) (classes : List ℕ) (width : ℕ)
     (rows haystack : List ℕ) (span : Span)
-    → Stands patterns ignore_case classes width rows haystack span span.start (record { place = 0; end = span.start })
+    → IsWalkAt patterns ignore_case classes width rows haystack span span.start (record { row = 0; end = span.start })
 stands_first patterns ignore_case classes width rows haystack span = grind arith
 
 module _ (t : Table) (patterns : List (List ℕ)) (ignore_case : Bool) (is : IsTableFor t patterns ignore_case)
     (haystack : List ℕ) (bytes : (i : ℕ) → get_or haystack i 0 < 256) (span : Span) (valid : IsValidSpan haystack span)
-    (s : Stop) (inside : s.end ≤ span.end)
-    (stands : Stands patterns ignore_case (classes_by t) t.width (rows_by t) haystack span s.end s) (behind : ℕ)
-    (later : (i place : ℕ) → Occurs patterns ignore_case haystack span i place
-    → behind < place + length (pattern_at patterns i) → s.end < place + length (pattern_at patterns i))
+    (s : WalkEnd) (inside : s.end ≤ span.end)
+    (stands : IsWalkAt patterns ignore_case (classes_by t) t.width (rows_by t) haystack span s.end s) (behind : ℕ)
+    (later : (i offset : ℕ) → Occurs patterns ignore_case haystack span i offset
+    → behind < offset + length (pattern_at patterns i) → s.end < offset + length (pattern_at patterns i))
   where
     abbrev texts : List (List ℕ)
     texts = map (symbols_in (classes_by t)) patterns
@@ -55,15 +55,15 @@ module _ (t : Table) (patterns : List (List ℕ)) (ignore_case : Bool) (is : IsT
     reads_to end further = sym (text_halves (classes_by t) haystack stands.from s.end end stands.before further)
 
     -- what is to come ends behind where no pattern ends
-    none_upto : (upto : ℕ) → NoneEnds texts read (classes_by t) haystack s.end upto → (i place : ℕ)
-        → Occurs patterns ignore_case haystack span i place → s.end < place + length (pattern_at patterns i)
-        → upto < place + length (pattern_at patterns i)
-    none_upto upto none i place o further =
-        let end = place + length (pattern_at patterns i) in
-        let begun = stands.begins i place o further in
+    none_upto : (upto : ℕ) → NoneEnds texts read (classes_by t) haystack s.end upto → (i offset : ℕ)
+        → Occurs patterns ignore_case haystack span i offset → s.end < offset + length (pattern_at patterns i)
+        → upto < offset + length (pattern_at patterns i)
+    none_upto upto none i offset o further =
+        let end = offset + length (pattern_at patterns i) in
+        let begun = stands.begins i offset o further in
         let ends = occurrence_ends ignore_case (classes_by t) patterns is.tells is.some haystack bytes span valid
         stands.from
-        i place end begun refl o in
+        i offset end begun refl o in
         let differs = none_ends texts (some_symbols (classes_by t) patterns is.some)
         (text_of (classes_by t) haystack (between stands.from end)) in
         let reads = reads_to end in
@@ -71,10 +71,10 @@ module _ (t : Table) (patterns : List (List ℕ)) (ignore_case : Bool) (is : IsT
         grind arith
 
     -- where something ends next
-    next_there : (stop : Stop) → s.end < stop.end
+    next_there : (stop : WalkEnd) → s.end < stop.end
         → ((recognises : Recognises texts t.width (rows_by t))
         → IsFirstEnd texts t.width (rows_by t) recognises read (classes_by t) haystack s.end stop)
-        → StandsNext patterns ignore_case (classes_by t) t.width (rows_by t) haystack span behind stop
+        → IsWalkAtEnd patterns ignore_case (classes_by t) t.width (rows_by t) haystack span behind stop
     next_there stop further finds =
         let first = finds is.recognises in
         let same = reads_to stop.end (omega arith) in
@@ -87,37 +87,37 @@ module _ (t : Table) (patterns : List (List ℕ)) (ignore_case : Bool) (is : IsT
             begins = grind arith;
           };
           ends = grind arith;
-          first = λ i place o to_come.
-              let past = none_upto (stop.end - 1) first.none i place o (later i place o to_come) in omega arith;
+          first = λ i offset o to_come.
+              let past = none_upto (stop.end - 1) first.none i offset o (later i offset o to_come) in omega arith;
         }
 
     -- where nothing does
-    next_nowhere : NoneEnds texts read (classes_by t) haystack s.end span.end → (i place : ℕ)
-        → Occurs patterns ignore_case haystack span i place → place + length (pattern_at patterns i) ≤ behind
-    next_nowhere none i place o =
-        let past = none_upto span.end none i place o in
-        let further = later i place o in
+    next_nowhere : NoneEnds texts read (classes_by t) haystack s.end span.end → (i offset : ℕ)
+        → Occurs patterns ignore_case haystack span i offset → offset + length (pattern_at patterns i) ≤ behind
+    next_nowhere none i offset o =
+        let past = none_upto span.end none i offset o in
+        let further = later i offset o in
         grind arith
 
-    -- where the walk is back in the first state, and then nothing begins before another place
+    -- where the walk is back in the first state, and then nothing begins before another offset
     module _ (at new : ℕ) (after : s.end ≤ at) (on : at ≤ new) (within : new ≤ span.end)
         (back : (recognises : Recognises texts t.width (rows_by t))
         → IsAt texts t.width (rows_by t) recognises (read_to read (classes_by t) haystack s.end at) 0
         × NoneEnds texts read (classes_by t) haystack s.end at)
         (none : NoneBefore patterns ignore_case haystack (between at span.end) new)
       where
-        begins_new : (i place : ℕ) → Occurs patterns ignore_case haystack span i place
-            → s.end < place + length (pattern_at patterns i) → new ≤ place
-        begins_new i place o further =
+        begins_new : (i offset : ℕ) → Occurs patterns ignore_case haystack span i offset
+            → s.end < offset + length (pattern_at patterns i) → new ≤ offset
+        begins_new i offset o further =
             let live = at_root texts t.width (rows_by t) is.recognises _ (back is.recognises).0 in
             let behind_at = begins_behind ignore_case (classes_by t) patterns is.tells is.some haystack bytes span valid
-            stands.from at i place (omega arith) (stands.begins i place o further)
-            (none_upto at (back is.recognises).1 i place o further) (omega arith)
+            stands.from at i offset (omega arith) (stands.begins i offset o further)
+            (none_upto at (back is.recognises).1 i offset o further) (omega arith)
             (ap (live_suffix texts) (sym (reads_to at after)) ∙ live) o in
-            none i place (grind arith)
+            none i offset (grind arith)
 
-        stands_new : Stands patterns ignore_case (classes_by t) t.width (rows_by t) haystack span new
-            (record { place = 0; end = new })
+        stands_new : IsWalkAt patterns ignore_case (classes_by t) t.width (rows_by t) haystack span new
+            (record { row = 0; end = new })
         stands_new =
             let before = stands.before in
             record {
@@ -128,12 +128,12 @@ module _ (t : Table) (patterns : List (List ℕ)) (ignore_case : Bool) (is : IsT
               begins = grind (arith, begins_new);
             }
 
-        later_new : (i place : ℕ) → Occurs patterns ignore_case haystack span i place
-            → behind < place + length (pattern_at patterns i) → new < place + length (pattern_at patterns i)
-        later_new i place o to_come = grind (arith, begins_new)
+        later_new : (i offset : ℕ) → Occurs patterns ignore_case haystack span i offset
+            → behind < offset + length (pattern_at patterns i) → new < offset + length (pattern_at patterns i)
+        later_new i offset o to_come = grind (arith, begins_new)
 
 -- what a walk finds that goes on from where another has come to: where something ends next, or nothing; or it comes to
--- where nothing begins before, behind the place where it is back
+-- where nothing begins before, behind the offset where it is back
 abbrev pub IsFoundOn : Table → List ℕ → List ℕ → ℕ → Span → Reached → Type 0
 IsFoundOn t prints haystack from span (Ends stop) = FindsNext t prints haystack from span (Ok (Some stop))
 IsFoundOn t prints haystack from span Nowhere = FindsNext t prints haystack from span (Ok None)
@@ -141,20 +141,20 @@ IsFoundOn t prints haystack from span (Back at) =
     (new : ℕ) → at ≤ new → new ≤ span.end
     → ((patterns : List (List ℕ)) (ignore_case : Bool) → IsTableFor t patterns ignore_case
     → ArePrints patterns ignore_case prints → NoneBefore patterns ignore_case haystack (between at span.end) new)
-    → HasComeTo t prints haystack from span (record { place = 0; end = new })
+    → HasComeTo t prints haystack from span (record { row = 0; end = new })
 
 module _ (t : Table) (prints haystack : List ℕ) (bytes : (i : ℕ) → get_or haystack i 0 < 256) (from : ℕ)
-    (span : Span) (valid : IsValidSpan haystack span) (here : Stop) (inside : here.end ≤ span.end)
+    (span : Span) (valid : IsValidSpan haystack span) (here : WalkEnd) (inside : here.end ≤ span.end)
     (comes : HasComeTo t prints haystack from span here)
   where
     valid_whole : (patterns : List (List ℕ)) (ignore_case : Bool) (start : ℕ)
-        → Stands patterns ignore_case (classes_by t) t.width (rows_by t) haystack (between start span.end) span.start
-        (record { place = from; end = span.start }) → IsValidSpan haystack (between start span.end)
+        → IsWalkAt patterns ignore_case (classes_by t) t.width (rows_by t) haystack (between start span.end) span.start
+        (record { row = from; end = span.start }) → IsValidSpan haystack (between start span.end)
     valid_whole patterns ignore_case start begun = let ordered = valid.ordered in grind arith
 
     pub found_on : (reached : Reached) → (AreClasses (classes_by t) t.width → (words : List (List ℕ))
         (recognises : Recognises words t.width (rows_by t)) (text : List ℕ)
-        → IsAt words t.width (rows_by t) recognises text here.place
+        → IsAt words t.width (rows_by t) recognises text here.row
         → HasReached words t.width (rows_by t) recognises text (classes_by t) haystack (between here.end span.end)
         reached) → (least : ℕ) → ReachesWithin (between here.end span.end) least reached
         → IsFoundOn t prints haystack from span reached
@@ -186,13 +186,13 @@ module _ (patterns : List (List ℕ)) (ignore_case : Bool) (classes : List ℕ) 
     (bytes : (i : ℕ) → get_or haystack i 0 < 256) (span : Span) (valid : IsValidSpan haystack span)
   where
     -- where something ends next behind the start of a span, it ends earliest in it
-    pub earliest_is : (answer : Option Stop)
-        → IsNextStop patterns ignore_case classes width rows haystack span span.start answer
-        → IfSome answer (λ stop. (span.start < stop.end) × (stop.end ≤ span.end) × (stop.place < 2 ^ 32))
+    pub earliest_is : (answer : Option WalkEnd)
+        → IsNextWalkEnd patterns ignore_case classes width rows haystack span span.start answer
+        → IfSome answer (λ stop. (span.start < stop.end) × (stop.end ≤ span.end) × (stop.row < 2 ^ 32))
         → IsEarliestEnd patterns ignore_case haystack span (option_map (λ stop. stop.end) answer)
     earliest_is None none inside =
-        λ i place o.
-        let end = none i place o in omega arith
+        λ i offset o.
+        let end = none i offset o in omega arith
     earliest_is (Some stop) next inside =
         let texts = map (symbols_in classes) patterns in
         let text = text_of classes haystack (between next.stands.from stop.end) in
@@ -202,8 +202,8 @@ module _ (patterns : List (List ℕ)) (ignore_case : Bool) (classes : List ℕ) 
         next.stands.from stop.end one.0 next.stands.after next.stands.before inside.1 first.is in
         record {
           occurs = (one.0, stop.end - length (pattern_at patterns one.0), occurs.0, sym occurs.1);
-          first = λ i place o.
-              next.first i place o (omega arith);
+          first = λ i offset o.
+              next.first i offset o (omega arith);
         }
       where
         some_is : {T : Type 0} (o : Option T) → IsSome o → (v : T) × (o ≡ Some v)
@@ -213,9 +213,9 @@ module _ (patterns : List (List ℕ)) (ignore_case : Bool) (classes : List ℕ) 
 pub finds_earliest : (t : Table) (patterns : List (List ℕ)) (ignore_case : Bool) (prints : List ℕ)
     → IsTableFor t patterns ignore_case → ArePrints patterns ignore_case prints → (haystack : List ℕ) → ((i : ℕ)
     → get_or haystack i 0 < 256)
-    → (span : Span) → IsValidSpan haystack span → (result : Result (Option Stop) Damaged)
+    → (span : Span) → IsValidSpan haystack span → (result : Result (Option WalkEnd) Damaged)
     → FindsNext t prints haystack 0 span result → IfOk result (λ answer. IfSome answer
-    (λ stop. (span.start < stop.end) × (stop.end ≤ span.end) × (stop.place < 2 ^ 32)))
+    (λ stop. (span.start < stop.end) × (stop.end ≤ span.end) × (stop.row < 2 ^ 32)))
     → IsOkAnd result (λ answer. IsEarliestEnd patterns ignore_case haystack span (option_map (λ stop. stop.end) answer))
 finds_earliest t patterns ignore_case prints is pass haystack bytes span valid result finds inside =
     let found = finds patterns ignore_case is pass span.start

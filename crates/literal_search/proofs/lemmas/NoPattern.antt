@@ -33,7 +33,7 @@ listed_written = refl
 none_kept : CanBeKept []
 none_kept = record { some = λ i d below. absurd (omega (arith, below)); few = omega arith }
 
--- by either kind nothing takes the place of no text
+-- by either kind, nothing replaces no text
 none_unshadowed : (kind : MatchKind) → unshadowed kind [] ≡ []
 none_unshadowed LeftmostFirst = refl
 none_unshadowed LeftmostLongest = refl

@@ -19,7 +19,7 @@ module _ (m : OverlappingMatchesValue) (found : MatchValue) (next : IsNextToCome
       → (other ≡ found) ⊎ IsToCome (gone_on m (Some found)) other
   to_come_later other is = grind arith
 
--- what an iteration gives from a place on
+-- what an iteration gives from an offset on
 record IsRest (m : OverlappingMatchesValue) (all : List MatchValue) : Type 0 where
   each : All (IsToCome m) all
   ordered : AllPairs ComesBefore all

@@ -29,11 +29,11 @@ unpacked_at (number ∷ more) (suc (suc zero)) = refl
 unpacked_at (number ∷ more) (suc (suc (suc zero))) = refl
 unpacked_at (number ∷ more) (suc (suc (suc (suc byte)))) =
     let all = suc (suc (suc (suc byte))) in
-    let place : suc (byte / 4) ≡ all / 4 = omega arith in
+    let index_is : suc (byte / 4) ≡ all / 4 = omega arith in
     let part : byte % 4 ≡ all % 4 = omega arith in
     unpacked_at more byte
     ∙ (ap (λ k. get_or more (byte / 4) 0 / 2 ^ (8 * k) % 256) part
-    ∙ ap (λ k. get_or (number ∷ more) k 0 / 2 ^ (8 * (all % 4)) % 256) place)
+    ∙ ap (λ k. get_or (number ∷ more) k 0 / 2 ^ (8 * (all % 4)) % 256) index_is)
 
 -- numbers that hold bytes give them back
 module _ (bytes : List ℕ) (small : (i : ℕ) → get_or bytes i 0 < 256) where

@@ -6,7 +6,7 @@ use Rattle.std.specs.Global.{Vec}
 use Rattle.std.specs.Option.{unwrap_or}
 use Rattle.literal_base.specs.Occurs.{pattern_at}
 use Rattle.literal_search.specs.Inside.Classes.{symbols_in}
-use Rattle.literal_search.specs.Inside.Lists.{Recognise, StandsBehind, symbols_of}
+use Rattle.literal_search.specs.Inside.Lists.{HasReadText, Recognise, symbols_of}
 use Rattle.literal_search.specs.Inside.Walk.{IsAt}
 use Rattle.literal_search.specs.Table.{Recognises, nothing}
 use Rattle.literal_search.specs.Words.{ending}
@@ -28,13 +28,13 @@ module _ (r : Recognised) (recognise : Recognise r) where
   symbols_are pattern read below is = grind (arith, get_or-map)
 
   -- one symbol more
-  module _ (text : List ℕ) (place symbol code : ℕ) (behind : StandsBehind r place text) (below : symbol < r.width)
-      (code_is : code ≡ get_or r.rows.now (place + symbol) 0)
+  module _ (text : List ℕ) (row symbol code : ℕ) (behind : HasReadText r row text) (below : symbol < r.width)
+      (code_is : code ≡ get_or r.rows.now (row + symbol) 0)
     where
       pub stands_on : (next : ℕ) → ((code < 2 ^ 31) × (next ≡ code)) ⊎ ((2 ^ 31 ≤ code) × (next ≡ code - 2 ^ 31))
-          → StandsBehind r next (text ++ symbol ∷ [])
+          → HasReadText r next (text ++ symbol ∷ [])
       stands_on next way = record {
-        row = row_at (symbols_of r) r.width r.rows.now recognise.recognises (text ++ symbol ∷ []) next
+        is_row = row_at (symbols_of r) r.width r.rows.now recognise.recognises (text ++ symbol ∷ []) next
             (by way recognise.recognises);
         at = by way;
       }
@@ -44,18 +44,18 @@ module _ (r : Recognised) (recognise : Recognise r) where
               → IsAt (symbols_of r) r.width r.rows.now recognises (text ++ symbol ∷ []) next
           by (inl small) recognises =
               subst (λ n. IsAt (symbols_of r) r.width r.rows.now recognises (text ++ symbol ∷ []) n)
-              (sym small.1) (at_without_end (symbols_of r) r.width r.rows.now recognises text place
+              (sym small.1) (at_without_end (symbols_of r) r.width r.rows.now recognises text row
               (behind.at recognises) symbol below code code_is small.0).0
           by (inr large) recognises =
               subst (λ n. IsAt (symbols_of r) r.width r.rows.now recognises (text ++ symbol ∷ []) n)
-              (sym large.1) (at_with_end (symbols_of r) r.width r.rows.now recognises text place
+              (sym large.1) (at_with_end (symbols_of r) r.width r.rows.now recognises text row
               (behind.at recognises) symbol below code code_is large.0).0
 
   -- what ends where a walk stands
-  pub ends_there : (text : List ℕ) (place : ℕ) → StandsBehind r place text
-      → get_or r.rows.now (place + r.width) 0 ≡ unwrap_or (ending (symbols_of r) text) nothing
-  ends_there text place behind =
-      ends_at (symbols_of r) r.width r.rows.now recognise.recognises text place
+  pub ends_there : (text : List ℕ) (row : ℕ) → HasReadText r row text
+      → get_or r.rows.now (row + r.width) 0 ≡ unwrap_or (ending (symbols_of r) text) nothing
+  ends_there text row behind =
+      ends_at (symbols_of r) r.width r.rows.now recognise.recognises text row
       (behind.at recognise.recognises)
 
   -- a symbol more of a pattern that was read

@@ -1,4 +1,4 @@
--- How many places a search takes does not depend on the numbers of the classes.
+-- How many entries a search needs does not depend on the numbers of the classes.
 use Rattle.std.proofs.Common.{◌≡◌, ℕ, ◌*◌, ◌<◌, ◌≤◌, ◌⊎◌, Bool, true, List, [], ◌∷◌, ◌++◌, eqb, nat_eq}
 use Rattle.std.proofs.Common.{ap, arith, drop, get_or, inl, inr, length, map, refl, subst, suc, sym, ◌∙◌}
 use Rattle.std.proofs.lemmas.Bool.{cases_lt, eqb-true}
@@ -145,7 +145,7 @@ module _ (texts others : List (List ℕ)) (on back : ℕ → ℕ) (count : lengt
         → starts_with nat_eq (pattern_at others i) (pattern_at others j) ≡ true
     prefix_on i j below inside is = grind (arith, starts_on)
 
-    -- so what takes the place of one is not later
+    -- so what replaces one is not later
     found_on : (i : ℕ) (below : i < length texts) (inside : i < length others)
         → (first_found others i inside).first ≤ (first_found texts i below).first
     found_on i below inside = grind (arith, first_found, no_later, prefix_on)
@@ -194,7 +194,7 @@ no_more_back kind texts others on back count go come =
     (λ i below. back_on others texts back on (sym count) (λ k few. come k (omega (arith, few, count)))
     (λ k few. go k (omega (arith, few, count))) kind i (omega (arith, below, count, as_many kind texts)))
 
--- the places that a search takes are told by its patterns
+-- the number of entries that a search needs follows from its patterns
 pub places_once : (search : SearchValue) (n m : ℕ) → TakesPlaces search n → TakesPlaces search m → n ≡ m
 unfolding TakesPlaces IsRowsLength
 places_once search n m (one, are_one, tells_one, first) (other, are_other, tells_other, second) =

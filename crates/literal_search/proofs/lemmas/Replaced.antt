@@ -2,8 +2,9 @@
 -- For `Search::replace_all`, and the law on it.
 use Rattle.std.proofs.lemmas.Grind.{common_steps}
 use Rattle.std.proofs.Common.{◌≡◌, ℕ, ◌+◌, ◌-◌, ◌<◌, ◌≤◌, Bool, false, List, [], ◌∷◌, ◌++◌, None, Some, drop, length}
-use Rattle.std.proofs.Common.{◌∙◌, append_assoc, arith, length-append, map, slice_range, subst, sum_by, sym}
-use Rattle.std.proofs.lemmas.List.{length-drop, length-map, length-take-le, take_rest}
+use Rattle.std.proofs.Common.{◌∙◌, ap, append-nil, append_assoc, arith, length-append, map, refl, slice_range}
+use Rattle.std.proofs.Common.{subst, sum_by}
+use Rattle.std.proofs.lemmas.List.{length-map, take_rest}
 use Rattle.std.proofs.lemmas.List.Folds.{drop_split}
 use Rattle.std.specs.Borrow.{Bor}
 use Rattle.std.specs.Iterator.{Yields}
@@ -13,7 +14,8 @@ use Rattle.literal_base.specs.MatchValue.{MatchValue}
 use Rattle.literal_base.specs.Occurs.{NoneIsEmpty, between, pattern_at}
 use Rattle.literal_base.specs.Query.{Query}
 use Rattle.literal_base.proofs.lemmas.Exists.{greedy_exists_lem}
-use Rattle.literal_search.proofs.lemmas.Callers.{greedy_behind, matches_of}
+use Rattle.literal_search.proofs.lemmas.Callers.{greedy_after, matches_of}
+use Rattle.literal_search.proofs.lemmas.Prepared.{length_part}
 use Rattle.literal_search.specs.MatchesValue.{GivesMatch, MatchesValue}
 use Rattle.literal_search.specs.Replaced.{IsReplaced, RefusesToReplace, replaced}
 use Rattle.literal_search.specs.SearchValue.{SearchValue}
@@ -56,13 +58,25 @@ module _ {search : SearchValue} {haystack : List ℕ} {replacements : List (Bor 
         replaced_by : (more : List MatchValue)
             → IsGreedyIn it.search.query it.search.ignore_case it.haystack (between it.at it.span.end) more
             → IsReplaced search haystack given (replaced haystack given 0 (done ++ more))
-        replaced_by more greedy = grind (arith, length-map, greedy_behind)
+        replaced_by more greedy = grind (arith, length-map, greedy_after)
 
         -- behind the last match it is the whole
         pub all_written : {o : MatchesValue} → GivesMatch it None o → (answer : List ℕ)
-            → answer ≡ text ++ slice_range haystack at (length haystack) → IsReplaced search haystack given answer
-        all_written step answer is =
-            subst (IsReplaced search haystack given) (sym (is ∙ so_far.goes_on [])) (replaced_by [] step.leftmost)
+            → answer ≡ text ++ slice_range haystack at (length haystack)
+            → (is : IsReplaced search haystack given answer) × (is.matches ≡ done)
+        all_written step answer answer_is = (
+          record {
+            one_for_each = (replaced_by [] step.leftmost).one_for_each;
+            matches = done;
+            are_greedy = subst (λ (m : MatchesValue). IsGreedyIn m.search.query m.search.ignore_case m.haystack
+                (between m.at m.span.end) done) start
+                (subst (IsGreedyIn first.search.query first.search.ignore_case first.haystack
+                (between first.at first.span.end)) (append-nil done)
+                (greedy_after first done [] it run step.leftmost));
+            is_replaced = answer_is ∙ (so_far.goes_on [] ∙ ap (replaced haystack given 0) (append-nil done));
+          },
+          refl,
+        )
 
         -- memory was refused for some bytes of it, which has more matches to come
         refused : (more : List MatchValue)
@@ -93,22 +107,19 @@ module _ {search : SearchValue} {haystack : List ℕ} {replacements : List (Bor 
             )
             (grind (arith, length-append, slice_range))
 
--- replaced by their own patterns, from a place on, matches stay as they are
+-- replaced by their own patterns, from an offset on, matches stay as they are
 pub same_behind : (query : Query) (haystack : List ℕ) (at : ℕ) (all : List MatchValue)
     → IsGreedy query false haystack at all → replaced haystack query.patterns at all ≡ drop at haystack
 same_behind query haystack at [] nothing = take_rest haystack at
 same_behind query haystack at (found ∷ more) greedy =
     grind (arith, drop_split, same_behind query haystack found.end more greedy.1)
 
-range_length : (bytes : List ℕ) (from to : ℕ) → to ≤ length bytes → length (slice_range bytes from to) ≡ to - from
-range_length bytes from to within = grind (arith, length-take-le, length-drop)
-
--- how long a text is behind a place, once matches are replaced
+-- how long a text is behind an offset, once matches are replaced
 pub length_behind : (query : Query) (ignore_case : Bool) (haystack : List ℕ) (replacements : List (List ℕ)) (at : ℕ)
     (all : List MatchValue) → at ≤ length haystack → IsGreedy query ignore_case haystack at all
     → length (replaced haystack replacements at all) + sum_by (λ found. found.end - found.start) all + at
     ≡ length haystack + sum_by (λ found. length (pattern_at replacements found.pattern)) all
-length_behind query ignore_case haystack replacements at [] within nothing = grind (arith, range_length)
+length_behind query ignore_case haystack replacements at [] within nothing = grind (arith, length_part)
 length_behind query ignore_case haystack replacements at (found ∷ more) within greedy =
     let occurs = greedy.0.occurs in
     let ends : found.end ≤ length haystack = omega (arith, greedy.0.whole, occurs.before_end) in

@@ -1,20 +1,20 @@
 -- Whole words that are replaced, one after another.
 -- For `WholeWords::replace_all`.
 use Rattle.std.proofs.Common.{◌≡◌, ◌∙◌, ◌++◌, ◌∷◌, ℕ, List, [], None, Option, Some, ap, append-nil}
-use Rattle.std.proofs.Common.{append_assoc, arith, length, map, slice_range, subst, sym}
+use Rattle.std.proofs.Common.{◌+◌, ◌<◌, append_assoc, arith, length, length-append, map, refl, slice_range, subst, sym}
 use Rattle.std.proofs.lemmas.List.{length-map}
 use Rattle.std.specs.Borrow.{Bor}
 use Rattle.literal_base.specs.MatchValue.{MatchValue}
-use Rattle.literal_base.specs.Occurs.{between, pattern_at, whole_of}
+use Rattle.literal_base.specs.Occurs.{NoneIsEmpty, between, pattern_at, whole_of}
 use Rattle.literal_base.specs.declared.search.Span.{Span}
 use Rattle.literal_search.specs.Inside.WholeWords.{AreWordsUpTo}
 use Rattle.literal_search.specs.Replaced.{AreWordsReplaced, RefusesToReplaceWords, replaced}
 use Rattle.literal_search.specs.WholeWords.{AreWholeWords, GivesWholeWord, IsFirstAlone, WholeWordMatchesValue}
 use Rattle.literal_search.specs.WholeWords.{WholeWordsValue}
 use Rattle.literal_search.specs.declared.replace.ReplaceError.TheVariants.{OutOfMemory}
-use Rattle.literal_search.proofs.lemmas.WholeWords.{words_next}
+use Rattle.literal_search.proofs.lemmas.WholeWords.{words_exist, words_next}
 
--- what an iteration over whole words gives that goes on at a place
+-- what an iteration over whole words gives that goes on at an offset
 pub word_at : {words : WholeWordsValue} {haystack : List ℕ} {it o : WholeWordMatchesValue} {at : ℕ}
     {answer : Option MatchValue} → it.words ≡ words → it.haystack ≡ haystack → it.span ≡ whole_of haystack
     → it.at ≡ at → GivesWholeWord it answer o → IsFirstAlone words haystack (between at (length haystack)) answer
@@ -34,7 +34,6 @@ pub record AreWordsWrittenTo (words : WholeWordsValue) (haystack : List ℕ) (re
   pub so_far : AreWordsUpTo words haystack (whole_of haystack) done at
   pub goes_on : (more : List MatchValue) → text ++ replaced haystack (map (λ r. r.now) replacements) at more
       ≡ replaced haystack (map (λ r. r.now) replacements) 0 (done ++ more)
-  pub empty : length haystack ≡ 0 → length text ≡ 0
 
 module _ {words : WholeWordsValue} {haystack : List ℕ} {replacements : List (Bor (List ℕ))}
     {it : WholeWordMatchesValue} {at : ℕ} {text : List ℕ} {done : List MatchValue}
@@ -62,7 +61,6 @@ module _ {words : WholeWordsValue} {haystack : List ℕ} {replacements : List (B
         so_far = subst (AreWordsUpTo words haystack (whole_of haystack) (done ++ found ∷ [])) (sym end_is)
             (words_next words haystack (whole_of haystack) done at found so_far.so_far first step.not_empty);
         goes_on = λ more. grind (arith, append_assoc, slice_range, so_far.goes_on (found ∷ more));
-        empty = λ none. absurd (omega (arith, none, step.not_empty, first.whole, first.occurs.occurs.before_end));
       }
 
   -- behind the last whole word it is the whole
@@ -77,12 +75,44 @@ module _ {words : WholeWordsValue} {haystack : List ℕ} {replacements : List (B
     is_replaced = is ∙ (so_far.goes_on [] ∙ ap (replaced haystack given 0) (append-nil done));
   }
 
-  -- memory was refused at a whole word
-  pub word_refused : {o : WholeWordMatchesValue} {found : MatchValue}
-      → length replacements ≡ length words.search.query.patterns → GivesWholeWord it (Some found) o
+  -- memory was refused for some bytes of it, which has more whole words to come
+  refused : length replacements ≡ length words.search.query.patterns → (more : List MatchValue)
+      → AreWholeWords words haystack (between at (length haystack)) more
+      → 0 < length (text ++ replaced haystack given at more) → RefusesToReplaceWords words haystack given OutOfMemory
+  refused count more are some = (
+    replaced haystack given 0 (done ++ more),
+    record {
+      one_for_each = grind (arith, length-map);
+      matches = done ++ more;
+      are_words = so_far.so_far.goes_on more are;
+      is_replaced = refl;
+    },
+    subst (λ (bytes : List ℕ). 0 < length bytes) (so_far.goes_on more) some,
+  )
+
+  -- as those after the last whole word
+  pub word_refused_behind : {o : WholeWordMatchesValue} → GivesWholeWord it None o
+      → length replacements ≡ length words.search.query.patterns
+      → 0 < length text + length (slice_range haystack at (length haystack))
       → RefusesToReplaceWords words haystack given OutOfMemory
-  word_refused count step =
-      let first = next_word step in (
-        grind (arith, length-map),
-        omega (arith, step.not_empty, first.whole, first.occurs.occurs.before_end),
-      )
+  word_refused_behind step count some =
+      refused count [] (next_word step) (omega (arith, length-append text (replaced haystack given at []), some))
+
+  -- or those before a whole word, or its replacement
+  pub word_refused : {o : WholeWordMatchesValue} {found : MatchValue} → GivesWholeWord it (Some found) o
+      → length replacements ≡ length words.search.query.patterns → NoneIsEmpty words.search.query.patterns
+      → 0 < length text + length (slice_range haystack at found.start) + length (pattern_at given found.pattern)
+      → RefusesToReplaceWords words haystack given OutOfMemory
+  word_refused {o} {found} step count not_empty some =
+      let (more, are) = words_exist words haystack not_empty (length haystack) (length haystack) found.end
+      (omega arith) in
+      let rest = replaced haystack given found.end more in
+      let between = slice_range haystack at found.start in
+      let replacement = pattern_at given found.pattern in
+      refused count (found ∷ more) (next_word step, are) (omega (
+        arith,
+        some,
+        length-append text (between ++ (replacement ++ rest)),
+        length-append between (replacement ++ rest),
+        length-append replacement rest,
+      ))

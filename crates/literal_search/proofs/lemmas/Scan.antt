@@ -37,10 +37,10 @@ module _ (t : Table) (patterns : List (List ℕ)) (ignore_case : Bool) (is : IsT
       (inside : at + 4 * block + t.longest ≤ length haystack)
       (none : NoneInFour t haystack at block (block + t.longest))
     where
-      none_in : (k : ℕ) → k < 4 → (i place : ℕ)
-          → Occurs patterns ignore_case haystack (between at (length haystack)) i place
-          → at + k * block ≤ place → place < at + k * block + block → ⊥
-      none_in k below i place o after before =
+      none_in : (k : ℕ) → k < 4 → (i offset : ℕ)
+          → Occurs patterns ignore_case haystack (between at (length haystack)) i offset
+          → at + k * block ≤ offset → offset < at + k * block + block → ⊥
+      none_in k below i offset o after before =
           let start = at + k * block in
           let most : k * block + block ≤ 4 * block = grind arith in
           let short = longest_is patterns i in
@@ -48,19 +48,19 @@ module _ (t : Table) (patterns : List (List ℕ)) (ignore_case : Bool) (is : IsT
           record { ordered = omega arith; in_haystack = omega arith } in
           nothing_ends ignore_case (classes_by t) patterns is.tells is.some haystack bytes
           (between start (start + (block + t.longest))) valid
-          (none k below (map (symbols_in (classes_by t)) patterns) is.recognises) i place (grind arith)
+          (none k below (map (symbols_in (classes_by t)) patterns) is.recognises) i offset (grind arith)
 
       pub none_in_blocks : NoneBefore patterns ignore_case haystack (between at (length haystack)) (at + 4 * block)
-      none_in_blocks i place o =
-          elim (cases_lt place (at + 4 * block)) [
+      none_in_blocks i offset o =
+          elim (cases_lt offset (at + 4 * block)) [
             | inr far ↦ far
-            | inl near ↦ elim (cases_lt place (at + block)) [
-              | inl one ↦ absurd (none_in 0 (omega arith) i place o (omega arith) (omega arith))
-              | inr behind_one ↦ elim (cases_lt place (at + 2 * block)) [
-                | inl two ↦ absurd (none_in 1 (omega arith) i place o (omega arith) (omega arith))
-                | inr behind_two ↦ elim (cases_lt place (at + 3 * block)) [
-                  | inl three ↦ absurd (none_in 2 (omega arith) i place o (omega arith) (omega arith))
-                  | inr behind_three ↦ absurd (none_in 3 (omega arith) i place o (omega arith) (omega arith))
+            | inl near ↦ elim (cases_lt offset (at + block)) [
+              | inl one ↦ absurd (none_in 0 (omega arith) i offset o (omega arith) (omega arith))
+              | inr behind_one ↦ elim (cases_lt offset (at + 2 * block)) [
+                | inl two ↦ absurd (none_in 1 (omega arith) i offset o (omega arith) (omega arith))
+                | inr behind_two ↦ elim (cases_lt offset (at + 3 * block)) [
+                  | inl three ↦ absurd (none_in 2 (omega arith) i offset o (omega arith) (omega arith))
+                  | inr behind_three ↦ absurd (none_in 3 (omega arith) i offset o (omega arith) (omega arith))
                 ]
               ]
             ]

@@ -1,4 +1,4 @@
--- Which pattern takes the place of another, and that a search by these finds the best.
+-- Which pattern replaces another, and that a search by these finds the best.
 use Rattle.std.proofs.Common.{◌≡◌, ◌≢◌, ◌⊎◌, ℕ, ◌-◌, ◌<◌, ◌≤◌, ◌^◌, ◌∙◌, List, [], ◌∷◌, ◌++◌, Bool, true, false}
 use Rattle.std.proofs.Common.{Some, inl, inr, ap, arith, cond, get_or, length, map, min, nat_eq, refl, reverse, subst}
 use Rattle.std.proofs.Common.{suc, sym, zero}
@@ -74,7 +74,7 @@ no_later test texts upto j finds passes = elim (cases_lt j finds.first) [
 ]
 
 module _ (words : List (List ℕ)) (i : ℕ) (below : i < length words) where
-  -- the first of the prefixes of a text takes its place
+  -- the first of the prefixes of a text replaces it
   pub first_found : FindsFirst (starts_with nat_eq (pattern_at words i)) words i
   first_found = grind (arith, back_at, back_count, end_is_prefix, end_of_itself, found_first)
 
@@ -107,7 +107,7 @@ pub first_is_one : (patterns : List (List ℕ)) (text : List ℕ) (n m : ℕ) �
     → IsFirstOf patterns text m → n ≡ m
 first_is_one patterns text n m one other = omega (arith, one.least m other.is, other.least n one.is)
 
--- what takes the place of some texts, none of which is empty, is not empty
+-- what replaces some texts, none of which is empty, is not empty
 pub some_unshadowed : (kind : MatchKind) (words : List (List ℕ)) → NoneIsEmpty words
     → NoneIsEmpty (unshadowed kind words)
 some_unshadowed LeftmostLongest words some i d below = some i d below
@@ -127,7 +127,7 @@ module _ (patterns others : List (List ℕ)) (count : length others ≡ length p
     (first : (i : ℕ) → i < length patterns → (n : ℕ) × IsFirstOf patterns (pattern_at patterns i) n
     × (pattern_at others i ≡ pattern_at patterns n)) (text : List ℕ)
   where
-    -- what is a suffix of a text has in its place what is one, too
+    -- the text that replaces a suffix of a text is a suffix of it, too
     pub replaced_ends : (i : ℕ) → IsSuffix patterns text i → IsSuffix others text i
     replaced_ends i is =
         let one = first i is.is_pattern in
@@ -211,7 +211,7 @@ module _ (patterns others : List (List ℕ)) (count : length others ≡ length p
               ]
             ]
 
--- reversed texts, and what takes their places
+-- reversed texts, and what replaces them
 back_first : (words : List (List ℕ)) (i : ℕ) → i < length (reversed words)
     → (n : ℕ) × IsFirstOf (reversed words) (pattern_at (reversed words) i) n
     × (pattern_at (reversed (map (first_prefix words) words)) i ≡ pattern_at (reversed words) n)

@@ -100,7 +100,7 @@ module _ (patterns words : List (List ℕ)) (width upto : ℕ)
         made = grind arith;
       }
 
-  -- the word of the next place is new
+  -- the word at the next index is new
   is_new : (state symbol : ℕ) → state < length words → upto ≡ state * stride_of width + symbol → (n : ℕ)
       → n < length words → word_of words n ≢ word_of words state ++ symbol ∷ []
   is_new state symbol is_state at n below same =

@@ -26,7 +26,9 @@ use Rattle.literal_search.specs.Inside.Stream.{held, shifted, stream_value}
 use Rattle.literal_search.specs.declared.reading.Reading.{Reading}
 use Rattle.literal_search.specs.declared.window.Window.{Window}
 use Rattle.literal_base.specs.Query.{Query}
+pub use Rattle.literal_fingerprints.proofs.lemmas.Skipped.{part_behind}
 use Rattle.literal_search.proofs.lemmas.Longest.{longest_is}
+use Rattle.literal_search.proofs.lemmas.Prepared.{length_part}
 
 module _ (patterns : List (List ℕ)) (ignore_case : Bool) (text more : List ℕ) where
   -- a part of a text is the same part of a longer one
@@ -63,17 +65,17 @@ module _ (patterns : List (List ℕ)) (ignore_case : Bool) (before text : List �
       → Occurs patterns ignore_case text (rest_from text 0) i p
   occurs_ahead i p occurs = grind (arith, length-append, same_ahead)
 
-  -- by any place
+  -- by any offset
   occurs_ahead_at : (i p : ℕ)
       → Occurs patterns ignore_case (before ++ text) (rest_from (before ++ text) (length before)) i p
       → Occurs patterns ignore_case text (rest_from text 0) i (p - length before)
   occurs_ahead_at i p occurs = grind (arith, common_steps, occurs_ahead)
 
-  -- where nothing begins ahead before a place, nothing does in the whole text
-  pub none_ahead : (place : ℕ) → ((i p : ℕ) → Occurs patterns ignore_case text (rest_from text 0) i p → place ≤ p)
+  -- where nothing begins ahead before an offset, nothing does in the whole text
+  pub none_ahead : (offset : ℕ) → ((i p : ℕ) → Occurs patterns ignore_case text (rest_from text 0) i p → offset ≤ p)
       → (i p : ℕ) → Occurs patterns ignore_case (before ++ text) (rest_from (before ++ text) (length before)) i p
-      → length before + place ≤ p
-  none_ahead place none i p occurs =
+      → length before + offset ≤ p
+  none_ahead offset none i p occurs =
       let here = none i (p - length before) (occurs_ahead_at i p occurs) in
       grind arith
 
@@ -88,7 +90,7 @@ pub leftmost_behind : (query : Query) (ignore_case : Bool) (before text : List �
     → IsLeftmostMatch query ignore_case (before ++ text) (rest_from (before ++ text) (length before))
     (shifted (length before) found)
 leftmost_behind query ignore_case before text found first =
-    let place : length before + found.start ≡ found.start + length before = omega arith in
+    let start_is : length before + found.start ≡ found.start + length before = omega arith in
     record {
       occurs = grind (arith, common_steps, occurs_behind);
       whole = omega (arith, first.whole);
@@ -99,20 +101,13 @@ leftmost_behind query ignore_case before text found first =
       best = grind (arith, occurs_ahead);
     }
 
--- where nothing begins before a later place, an answer for the rest from there on is one from an earlier place on
+-- where nothing begins before a later offset, an answer for the rest from there on is one from an earlier offset on
 pub leftmost_from : (query : Query) (ignore_case : Bool) (text : List ℕ) (from to : ℕ) (answer : Option MatchValue)
     → from ≤ to
     → ((i p : ℕ) → Occurs query.patterns ignore_case text (rest_from text from) i p → to ≤ p)
     → IsLeftmost query ignore_case text (rest_from text to) answer
     → IsLeftmost query ignore_case text (rest_from text from) answer
 leftmost_from query ignore_case text from to answer later none nothing = grind arith
-
--- a part that begins later is the part without its first bytes
-pub part_behind : (xs : List ℕ) (start end n : ℕ) → start + n ≤ end
-    → slice_range xs (start + n) end ≡ drop n (slice_range xs start end)
-part_behind xs start end n within =
-    let len : n + (end - (start + n)) ≡ end - start = omega (arith, within) in
-    grind (arith, drop-take, drop-drop)
 
 -- a part, and what was written behind it
 pub part_and_more : (xs written behind : List ℕ) (start end n : ℕ) → start ≤ end → end ≤ length xs
@@ -124,16 +119,9 @@ part_and_more xs written behind start end n ordered inside room =
     grind (arith, drop-take) in
     let all : drop start (take end xs ++ (written ++ behind)) ≡ slice_range xs start end ++ (written ++ behind) =
     grind (arith, drop-append-le, length-take-le) in
-    let len : length (slice_range xs start end) ≡ end - start =
-    grind (arith, length-take-le, length-drop) in
+    let len = length_part xs start end ordered inside in
     let whole : (end + n) - start ≡ length (slice_range xs start end) + n = omega (arith, len, ordered) in
     grind (arith, take-append-add, take-append-le)
-
--- how long a part is
-pub part_len : (xs : List ℕ) (start end : ℕ) → start ≤ end → end ≤ length xs
-    → length (slice_range xs start end) ≡ end - start
-part_len xs start end ordered inside =
-    length-take-le (end - start) (drop start xs) (omega (arith, inside, length-drop start xs))
 
 module _ (search : SearchValue) (from now : ℕ) (bytes : List ℕ) (later : from ≤ now)
     (within : now - from ≤ length bytes) (passed : PassesOver search from now bytes) where
@@ -161,9 +149,9 @@ module _ (search : SearchValue) (from now : ℕ) (bytes : List ℕ) (later : fro
       (subst (λ (text : List ℕ). Occurs search.query.patterns search.ignore_case text (rest_from text now) i p)
       (sym (cut_here before)) there)
 
--- a place behind what a window holds can be told
+-- an offset behind what a window holds can be told
 pub held_fits : (w : Window) → IsWindow w → w.offset + length (held w) < 2 ^ 64
-held_fits w sound = omega (arith, part_len w.bytes.items w.start w.end sound.ordered sound.inside)
+held_fits w sound = omega (arith, length_part w.bytes.items w.start w.end sound.ordered sound.inside)
 
 -- where reading is over and did not fail, all was read
 pub read_whole : (is_whole : Bool) (failure : Option ErrorKind) (error : Option Error)

@@ -63,7 +63,7 @@ folded_utf8 false bytes is = is
 folded_length : (ignore_case : Bool) (bytes : List ℕ) → length (case_folded ignore_case bytes) ≡ length bytes
 folded_length ignore_case bytes = grind (arith, length-map)
 
--- and its characters begin at the same places
+-- and its characters begin at the same offsets
 folded_boundary : (ignore_case : Bool) (bytes : List ℕ) (i : ℕ) → IsCharBoundary (case_folded ignore_case bytes) i
     → IsCharBoundary bytes i
 folded_boundary ignore_case bytes i is = grind (arith, length-map, get_or-map)

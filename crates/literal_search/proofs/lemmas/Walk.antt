@@ -24,15 +24,15 @@ row_fits patterns width rows recognises state below = grind arith
 
 -- what ends where a walk stands
 pub ends_at : (patterns : List (List ℕ)) (width : ℕ) (rows : List ℕ) (recognises : Recognises patterns width rows)
-    (text : List ℕ) (place : ℕ)
-    → IsAt patterns width rows recognises text place
-    → get_or rows (place + width) 0 ≡ unwrap_or (ending patterns text) nothing
-ends_at patterns width rows recognises text place at = grind (arith, ending_by_live)
+    (text : List ℕ) (row : ℕ)
+    → IsAt patterns width rows recognises text row
+    → get_or rows (row + width) 0 ≡ unwrap_or (ending patterns text) nothing
+ends_at patterns width rows recognises text row at = grind (arith, ending_by_live)
 
--- where the number behind a place and a symbol leads, for a walk that stands there
+-- where the number for a symbol in a row leads, for a walk in that row
 module _ (patterns : List (List ℕ)) (width : ℕ) (rows : List ℕ) (recognises : Recognises patterns width rows)
-    (text : List ℕ) (place : ℕ) (at : IsAt patterns width rows recognises text place) (symbol : ℕ)
-    (below : symbol < width) (code : ℕ) (code_is : code ≡ get_or rows (place + symbol) 0)
+    (text : List ℕ) (row : ℕ) (at : IsAt patterns width rows recognises text row) (symbol : ℕ)
+    (below : symbol < width) (code : ℕ) (code_is : code ≡ get_or rows (row + symbol) 0)
   where
     pub leads_on : LeadsTo patterns recognises.words width code (live_suffix patterns (text ++ symbol ∷ []))
     leads_on = grind (arith, live_push)
@@ -47,7 +47,7 @@ module _ (patterns : List (List ℕ)) (width : ℕ) (rows : List ℕ) (recognise
         → IsAt patterns width rows recognises (text ++ symbol ∷ []) next
     stands next is =
         let to = leads_on in
-        record { state = to.state; is_state = to.is_state; place_is = is; live_suffix = sym to.word_is }
+        record { state = to.state; is_state = to.is_state; row_is = is; live_suffix = sym to.word_is }
 
     -- a number below 2^31 leads to a state with whose word nothing ends
     pub at_without_end : code < 2 ^ 31
@@ -75,8 +75,8 @@ module _ (patterns : List (List ℕ)) (width : ℕ) (rows : List ℕ) (recognise
             let few = recognises.few in
             absurd (omega (arith, leads_by None ends))
         by_ending (Some i) ends =
-            let place_is : code - 2 ^ 31 ≡ leads_on.state * stride_of width = omega (arith, leads_by (Some i) ends) in
-            let on = stands (code - 2 ^ 31) place_is in
+            let row_is : code - 2 ^ 31 ≡ leads_on.state * stride_of width = omega (arith, leads_by (Some i) ends) in
+            let on = stands (code - 2 ^ 31) row_is in
             let pattern_is : get_or rows (code - 2 ^ 31 + width) 0 ≡ i =
             ends_at patterns width rows recognises (text ++ symbol ∷ []) (code - 2 ^ 31) on
             ∙ ap (λ o. unwrap_or o nothing) ends in
@@ -109,11 +109,11 @@ pub slice_push : (text : List ℕ) (from at : ℕ) → from ≤ at → at < leng
     → slice_range text from (at + 1) ≡ slice_range text from at ++ get_or text at 0 ∷ []
 slice_push text from at after inside =
     let long : (at + 1) - from ≡ (at - from) + 1 = omega arith in
-    let place : from + (at - from) ≡ at = omega arith in
+    let at_is : from + (at - from) ≡ at = omega arith in
     ap (λ n. take n (drop from text)) long
     ∙ (take_more (drop from text) (at - from) 0 (omega (arith, length-drop from text))
     ∙ ap (λ s. slice_range text from at ++ s ∷ [])
-    (get_or-drop from text (at - from) 0 ∙ ap (λ k. get_or text k 0) place))
+    (get_or-drop from text (at - from) 0 ∙ ap (λ k. get_or text k 0) at_is))
 
 module _ (classes haystack : List ℕ) (start at : ℕ) (after : start ≤ at) (inside : at < length haystack) where
   -- the classes of the bytes up to the next one
@@ -140,7 +140,7 @@ pub at_start : (patterns : List (List ℕ)) (width : ℕ) (rows : List ℕ)
 at_start patterns width rows recognises = record {
   state = 0;
   is_state = recognises.some;
-  place_is = zero_row;
+  row_is = zero_row;
   live_suffix = sym recognises.root;
 }
   where
@@ -149,9 +149,9 @@ at_start patterns width rows recognises = record {
 
 -- the row of where a walk stands lies in the rows
 pub row_at : (patterns : List (List ℕ)) (width : ℕ) (rows : List ℕ)
-    (recognises : Recognises patterns width rows) (text : List ℕ) (place : ℕ)
-    → IsAt patterns width rows recognises text place → IsRow width rows place
-row_at patterns width rows recognises text place at = grind (arith, row_fits)
+    (recognises : Recognises patterns width rows) (text : List ℕ) (row : ℕ)
+    → IsAt patterns width rows recognises text row → IsRow width rows row
+row_at patterns width rows recognises text row at = grind (arith, row_fits)
 
 pub text_length : (classes haystack : List ℕ) (start at : ℕ) → start ≤ at → at ≤ length haystack
     → start + length (text_of classes haystack (between start at)) ≡ at
@@ -187,23 +187,23 @@ module _ (width : ℕ) (rows : List ℕ) (from : ℕ) (classes haystack : List �
   pub walks_start : WalksOn width rows from classes haystack start start from
   walks_start patterns recognises text at = grind (arith, read_nothing)
 
-  module _ (at place : ℕ) (walks : WalksOn width rows from classes haystack start at place) (after : start ≤ at)
+  module _ (at row : ℕ) (walks : WalksOn width rows from classes haystack start at row) (after : start ≤ at)
       (inside : at < length haystack) (below : get_or classes (get_or haystack at 0) 0 < width) (code : ℕ)
-      (code_if : place + width < length rows → code ≡ get_or rows (place + get_or classes (get_or haystack at 0) 0) 0)
+      (code_if : row + width < length rows → code ≡ get_or rows (row + get_or classes (get_or haystack at 0) 0) 0)
     where
       number : (patterns : List (List ℕ)) (recognises : Recognises patterns width rows)
-          (text : List ℕ) → IsAt patterns width rows recognises (read_to text classes haystack start at) place
-          → code ≡ get_or rows (place + get_or classes (get_or haystack at 0) 0) 0
+          (text : List ℕ) → IsAt patterns width rows recognises (read_to text classes haystack start at) row
+          → code ≡ get_or rows (row + get_or classes (get_or haystack at 0) 0) 0
       number patterns recognises text stood =
-          let row = row_at patterns width rows recognises (read_to text classes haystack start at) place stood in
-          code_if (omega (arith, row.fits))
+          let fits = (row_at patterns width rows recognises (read_to text classes haystack start at) row stood).fits in
+          code_if (omega (arith, fits))
 
       -- behind one byte more nothing ends
       pub walks_further : code < 2 ^ 31 → WalksOn width rows from classes haystack start (at + 1) code
       walks_further small patterns recognises text begins =
           let stood = walks patterns recognises text begins in
           let code_is = number patterns recognises text stood.0 in
-          let on = at_without_end patterns width rows recognises (read_to text classes haystack start at) place
+          let on = at_without_end patterns width rows recognises (read_to text classes haystack start at) row
           stood.0 _ below code code_is small in
           let more = sym (read_push text at after inside) in (
             subst (λ t. IsAt patterns width rows recognises t code) more on.0,
@@ -215,12 +215,12 @@ module _ (width : ℕ) (rows : List ℕ) (from : ℕ) (classes haystack : List �
         where
           -- something ends
           pub reaches_end : 2 ^ 31 ≤ code → IsFirstEnd patterns width rows recognises text
-              classes haystack start (record { place = code - 2 ^ 31; end = at + 1 })
+              classes haystack start (record { row = code - 2 ^ 31; end = at + 1 })
           reaches_end large =
               let stood = walks patterns recognises text begins in
               let code_is = number patterns recognises text stood.0 in
               let on = at_with_end patterns width rows recognises (read_to text classes haystack start at)
-              place
+              row
               stood.0 _ below code code_is large in
               let more = sym (read_push text at after inside) in
               let last : at ≡ at + 1 - 1 = omega arith in
@@ -243,11 +243,11 @@ module _ (width : ℕ) (rows : List ℕ) (from : ℕ) (classes haystack : List �
                 | inl small ↦ inl (
                   small,
                   row_at patterns width rows recognises next code
-                      (at_without_end patterns width rows recognises read place stood.0 _ below code code_is small).0,
+                      (at_without_end patterns width rows recognises read row stood.0 _ below code code_is small).0,
                 )
                 | inr large ↦ inr (
                   large,
                   row_at patterns width rows recognises next (code - 2 ^ 31)
-                      (at_with_end patterns width rows recognises read place stood.0 _ below code code_is large).0,
+                      (at_with_end patterns width rows recognises read row stood.0 _ below code code_is large).0,
                 )
               ]

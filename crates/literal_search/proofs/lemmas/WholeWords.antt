@@ -1,13 +1,13 @@
 -- The whole words that begin at one offset, and what is scanned for them.
-use Rattle.std.proofs.Common.{◌≡◌, ◌+◌, ◌-◌, ◌*◌, ◌<◌, ◌≤◌, ℕ, List, [], None, Some}
-use Rattle.std.proofs.Common.{◌++◌, ◌∷◌, append_assoc, arith, inl, inr, length, subst, sym}
+use Rattle.std.proofs.Common.{◌≡◌, ◌+◌, ◌-◌, ◌*◌, ◌<◌, ◌≤◌, ◌∙◌, ◌⊎◌, ℕ, Bool, List, [], None, Option, Some}
+use Rattle.std.proofs.Common.{◌++◌, ◌∷◌, append_assoc, arith, inl, inr, length, suc, subst, sym, zero}
 use Rattle.std.proofs.Math.Nat.{mul-le-mul_right}
-use Rattle.std.proofs.lemmas.Bool.{cases_lt}
+use Rattle.std.proofs.lemmas.Bool.{cases_Bool, cases_lt, false≢true}
 use Rattle.std.proofs.lemmas.List.Elements.{All-get_or}
 use Rattle.literal_base.specs.Counts.{Counts}
 use Rattle.literal_base.specs.Leftmost.{IsLeftmostMatch}
 use Rattle.literal_base.specs.MatchValue.{MatchValue}
-use Rattle.literal_base.specs.Occurs.{between, pattern_at}
+use Rattle.literal_base.specs.Occurs.{NoneIsEmpty, between, pattern_at}
 use Rattle.literal_base.specs.declared.packed.MatchKind.TheVariants.{LeftmostLongest}
 use Rattle.literal_base.specs.declared.search.Span.{Span}
 use Rattle.literal_search.specs.Inside.WholeWords.{AreWordParts, AreWordsFor, AreWordsIn, AreWordsUpTo, ForWords}
@@ -15,11 +15,13 @@ use Rattle.literal_search.specs.Inside.WholeWords.{IsBestWord, IsWordAt, ScansEn
 use Rattle.literal_search.specs.Prepared.{IsPrepared}
 use Rattle.literal_search.specs.PreparedWords.{PreparedWordsValue}
 use Rattle.literal_search.specs.SearchValue.{ScansNext, SearchValue}
-use Rattle.literal_search.specs.WholeWords.{IsFirstAlone, IsLeftmostAlone, OccursAlone, ScansWordsAtMost}
-use Rattle.literal_search.specs.WholeWords.{WholeWordsValue, most_anew, most_at_start}
+use Rattle.literal_search.specs.WholeWords.{AreWholeWords, IsAlone, IsFirstAlone, IsLeftmostAlone, OccursAlone}
+use Rattle.literal_search.specs.WholeWords.{ScansWordsAtMost, WholeWordsValue, is_word_at, is_word_before, most_anew}
+use Rattle.literal_search.specs.WholeWords.{most_at_start}
 use Rattle.literal_search.specs.declared.backward.TheConstants.{LEAST}
 use Rattle.literal_search.specs.declared.word_search.Words.{Words}
 use Rattle.literal_base.proofs.lemmas.Callers.{none_longer}
+use Rattle.literal_base.proofs.lemmas.Exists.{leftmost_or_none}
 use Rattle.literal_search.proofs.lemmas.Iterations.{scanned_on}
 
 -- what holds of whatever search is read holds of the one that is
@@ -44,28 +46,12 @@ pub ends_on : (longest start at end : ℕ) (old now new : Counts) → ScansEnds 
 ends_on longest start at end old now new so_far others most less =
     let times = mul-le-mul_right (longest + 1) less in grind arith
 
--- what is scanned while an end gets on to one place, and then to another
+-- what is scanned while an end gets on to one offset, and then to another
 pub ends_join : (longest start at end : ℕ) (old now new : Counts) → ScansEnds longest at end old now
     → ScansEnds longest start at now new → ScansEnds longest start end old new
 ends_join longest start at end old now new first second = record {
   others = scanned_on old now new first.others second.others;
   most = omega (arith, first.most, second.most);
-}
-
--- an end gets on to a place, or to another before it
-pub ends_before : (longest start at end : ℕ) (old new : Counts) → ScansEnds longest at end old new → start ≤ at
-    → ScansEnds longest start end old new
-ends_before longest start at end old new scans before = record {
-  others = scans.others;
-  most = omega (arith, scans.most, mul-le-mul_right (longest + 1) before);
-}
-
--- at most one byte is scanned
-pub ends_one : (longest start end : ℕ) (old new : Counts) → new ≡ record old { scanned = new.scanned }
-    → new.scanned ≤ old.scanned + 1 → start ≤ end → ScansEnds longest start (end + 1) old new
-ends_one longest start end old new others most ordered = record {
-  others = others;
-  most = omega (arith, most, mul-le-mul_right (longest + 1) ordered);
 }
 
 -- what is scanned with one byte before
@@ -84,7 +70,7 @@ is_some p parts i is =
 
 module _ (p : WordParts) (parts : AreWordParts p) (haystack : List ℕ) (at from end : ℕ) (found : MatchValue)
     (leftmost : IsLeftmostMatch p.search.query p.search.ignore_case haystack (between from end) found) where
-  -- a pattern occurs after a place as a whole word
+  -- a pattern occurs after an offset as a whole word
   abbrev IsWordFrom : ℕ → ℕ → Type 0
   IsWordFrom i k = OccursAlone p.search.query.patterns p.search.ignore_case p.word_bytes haystack (between at end) i k
 
@@ -112,7 +98,7 @@ module _ (p : WordParts) (parts : AreWordParts p) (haystack : List ℕ) (at from
       word_in word (omega arith) (none_longer p.search.query p.search.ignore_case haystack (between from end) found
       parts.longest leftmost i (word_in word leftmost.occurs.after_start word.occurs.before_end).occurs)
 
-  -- no whole word begins before a place, nor at the next start
+  -- no whole word begins before an offset, nor at the next start
   pub none_further : ((i k : ℕ) → at ≤ k → k < from → ¬ IsWordFrom i k)
       → (at ≤ found.start → (i : ℕ) → ¬ IsWordAt p haystack (between found.start found.end) i)
       → (i k : ℕ) → at ≤ k → k < found.start + 1 → ¬ IsWordFrom i k
@@ -248,3 +234,60 @@ pub words_next : (words : WholeWordsValue) (haystack : List ℕ) (span : Span) (
     → IsFirstAlone words haystack (between at span.end) (Some found) → found.start < found.end
     → AreWordsUpTo words haystack span (done ++ found ∷ []) found.end
 words_next words haystack span done at found so_far leftmost some = grind (arith, append_assoc)
+
+-- whether a part of a haystack is alone
+alone_or_not : (word_bytes : List Bool) (haystack : List ℕ) (start end : ℕ)
+    → IsAlone word_bytes haystack start end ⊎ ¬ IsAlone word_bytes haystack start end
+alone_or_not word_bytes haystack start end =
+    elim (cases_Bool (is_word_before word_bytes haystack start)) [
+      | inl before ↦ inr (λ alone. false≢true (sym alone.before ∙ before))
+      | inr none ↦ elim (cases_Bool (is_word_at word_bytes haystack end)) [
+        | inl after ↦ inr (λ alone. false≢true (sym alone.after ∙ after))
+        | inr nothing ↦ inl (record { before = none; after = nothing })
+      ]
+    ]
+
+module _ (words : WholeWordsValue) (haystack : List ℕ) where
+  -- there is a leftmost whole word, or none
+  first_alone : (span : Span) → (answer : Option MatchValue) × IsFirstAlone words haystack span answer
+  first_alone span =
+      let patterns = words.search.query.patterns in
+      elim (leftmost_or_none words.search.query words.search.ignore_case haystack span
+      (λ i at. IsAlone words.word_bytes haystack at (at + length (pattern_at patterns i)))
+      (λ i at. alone_or_not words.word_bytes haystack at (at + length (pattern_at patterns i)))) [
+        | inl none ↦ (None, λ i at o. none i at (o.occurs, o.alone))
+        | inr found ↦ (
+          Some found.0,
+          record {
+            occurs = record { occurs = found.1.occurs.0; alone = found.1.occurs.1 };
+            whole = found.1.whole;
+            earliest = λ i at before o. found.1.earliest i at before (o.occurs, o.alone);
+            best = λ i better o. found.1.best i better (o.occurs, o.alone);
+          },
+        )
+      ]
+
+  -- and a list of those that do not overlap, if no pattern is empty
+  module _ (not_empty : NoneIsEmpty words.search.query.patterns) (end : ℕ) where
+    abbrev WordsFrom : ℕ → Type 0
+    WordsFrom at = (all : List MatchValue) × AreWholeWords words haystack (between at end) all
+
+    words_from : (at : ℕ) → ((to : ℕ) → at < to → WordsFrom to) → (answer : Option MatchValue)
+        → IsFirstAlone words haystack (between at end) answer → WordsFrom at
+    words_from at later None nothing = ([], nothing)
+    words_from at later (Some found) first =
+        let some : 0 < length (pattern_at words.search.query.patterns found.pattern) =
+        not_empty found.pattern [] first.occurs.occurs.is_pattern in
+        let more = later found.end (omega (arith, first.whole, first.occurs.occurs.after_start)) in
+        (found ∷ more.0, (first, more.1))
+
+    pub words_exist : (most at : ℕ) → end ≤ at + most → WordsFrom at
+    words_exist zero at h = (
+      [],
+      λ i s o.
+          let some : 0 < length (pattern_at words.search.query.patterns i) = not_empty i [] o.occurs.is_pattern in
+          omega (arith, o.occurs.before_end, o.occurs.after_start),
+    )
+    words_exist (suc most) at h =
+        let answer = first_alone (between at end) in
+        words_from at (λ to after. words_exist most to (omega arith)) answer.0 answer.1

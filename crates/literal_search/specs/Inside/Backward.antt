@@ -1,4 +1,4 @@
--- Walks through a span from its end, by tables that may be lent.
+-- Backward walks through a span, by tables that may be lent.
 use Rattle.std.specs.Prelude.{◌≡◌, ◌⊎◌, ℕ, ◌+◌, ◌-◌, ◌<◌, ◌≤◌, ◌^◌, ◌%◌, List, length, map}
 use Rattle.std.specs.Prelude.{IfOk, Option, Result, max, reverse, slice_index}
 use Rattle.std.specs.Result.{IsOkAnd}
@@ -8,15 +8,15 @@ use Rattle.literal_base.specs.MatchValue.{MatchValue}
 use Rattle.literal_base.specs.Occurs.{Occurs, between}
 use Rattle.literal_base.specs.declared.search.Span.{Span}
 use Rattle.literal_ids.specs.declared.primitives.pattern_id.TheConstants.PatternID
-use Rattle.literal_search.specs.MatchesValue.{place_behind, place_further}
+use Rattle.literal_search.specs.MatchesValue.{offset_after_start, offset_at_end}
 use Rattle.literal_search.specs.SearchValue.{SearchValue}
 use Rattle.literal_search.specs.Inside.Walk.{IsAt, classes_by, rows_by, text_of}
 use Rattle.literal_search.specs.SearchValue.{ScansThrice, looked_by}
 use Rattle.literal_search.specs.Prepared.{AreBackTables, ArePrints, BackTables, texts_back}
 use Rattle.literal_search.specs.Table.{Recognises}
 use Rattle.literal_search.specs.declared.backward.Backward.{Backward}
-use Rattle.literal_search.specs.declared.backward.GoesOn.{GoesOn}
-use Rattle.literal_search.specs.declared.backward.GoesOn.TheVariants.{AfterStart, AtEnd}
+use Rattle.literal_search.specs.declared.backward.Continuation.{Continuation}
+use Rattle.literal_search.specs.declared.backward.Continuation.TheVariants.{AfterStart, AtEnd}
 use Rattle.literal_search.specs.declared.backward.Marks.{Marks}
 use Rattle.literal_search.specs.declared.backward.TheConstants.{LEAST}
 use Rattle.literal_search.specs.declared.prepared.Damaged.{Damaged}
@@ -29,7 +29,7 @@ pub record IsSafe (b : Backward) : Type 0 where
   pub few : length b.lens.now ≤ PatternID.LIMIT
   pub prints : length b.prints.now ≡ SCAN_LEN
 
--- the tables that they would be of a search
+-- the tables as those of a search
 abbrev pub back_tables_by : SearchValue → Backward → BackTables
 back_tables_by search b = record {
   search = search;
@@ -39,67 +39,69 @@ back_tables_by search b = record {
   longest = b.table.longest;
 }
 
--- they are those of a search, with the length of each pattern, and a scan that stops at each of them, if any
+-- the tables are those of a search, with the length of each pattern, and a scan that stops at each pattern, if there is
+-- one
 pub record AreBackFor (search : SearchValue) (b : Backward) : Type 0 where
   pub tables : AreBackTables (back_tables_by search b)
   pub lens : b.lens.now ≡ map (λ bytes. length bytes) search.query.patterns
   pub prints : ArePrints search.query.patterns search.ignore_case b.prints.now
 
--- what holds of whatever search they are the tables of
+-- a property holds of every search whose tables they are
 abbrev pub ForBackward : Backward → (BackTables → Type 0) → Type 0
 ForBackward b P = (search : SearchValue) → AreBackFor search b → P (back_tables_by search b)
 
--- a walk stands at the row of what it read of a haystack, from a place down to another
-pub record StandsDown (p : BackTables) (haystack : List ℕ) (from at place : ℕ) : Type 0 where
-  pub row : place + p.width < length p.rows
+-- a walk has read a haystack backward from an offset to another, and is in the row for what it read
+pub record HasReadBack (p : BackTables) (haystack : List ℕ) (from at row : ℕ) : Type 0 where
+  pub fits : row + p.width < length p.rows
   pub is_at : (recognises : Recognises (texts_back p) p.width p.rows)
       → IsAt (texts_back p) p.width p.rows recognises
-      (reverse (text_of p.classes haystack (between at from))) place
+      (reverse (text_of p.classes haystack (between at from))) row
 
--- no pattern begins at a place that lies whole before an end
+-- no pattern begins at an offset and lies whole before an end
 abbrev pub NoneBeginsAt : BackTables → List ℕ → ℕ → ℕ → Type 0
 NoneBeginsAt p haystack end at =
     (i : ℕ) → ¬ Occurs p.search.query.patterns p.search.ignore_case haystack (between at end) i at
 
--- of the patterns that begin at a place and lie whole before an end this one is the best
+-- of the patterns that begin at an offset and lie whole before an end, this one is preferred
 pub record BeginsBest (p : BackTables) (haystack : List ℕ) (end at i : ℕ) : Type 0 where
   pub occurs : Occurs p.search.query.patterns p.search.ignore_case haystack (between at end) i at
   pub best : (j : ℕ) → IsBetter p.search.query.kind p.search.query.patterns j i
       → ¬ Occurs p.search.query.patterns p.search.ignore_case haystack (between at end) j at
 
--- the pattern that a row names, to which a number leads
+-- the pattern named by the row to which a number leads
 abbrev pub named_by : BackTables → ℕ → ℕ
 named_by p code = slice_index p.rows (code - 2 ^ 31 + p.width)
 
--- what a number of a row tells of the place at which it was read: from 2^31 on, that a pattern begins there, and which
+-- the mark of the offset at which it was read: from 2^31 on, a pattern begins there, which the row names; below, none
+-- does
 pub record IsMark (p : BackTables) (haystack : List ℕ) (end at code : ℕ) : Type 0 where
   pub none : code < 2 ^ 31 → NoneBeginsAt p haystack end at
   pub row : 2 ^ 31 ≤ code → code - 2 ^ 31 + p.width < length p.rows
   pub best : 2 ^ 31 ≤ code → BeginsBest p haystack end at (named_by p code)
 
--- a part of the span, as long as the longest pattern if more is behind it
+-- a part of the span, at least as long as the longest pattern, unless it ends with the span
 pub record IsBlock (longest : ℕ) (span block : Span) : Type 0 where
   pub after : span.start ≤ block.start
   pub some : block.start < block.end
   pub inside : block.end ≤ span.end
   pub full : (block.end ≡ span.end) ⊎ (longest ≤ block.end - block.start)
 
--- no pattern begins from a place on before another
+-- no pattern begins between two offsets
 abbrev pub NoneFrom : BackTables → List ℕ → ℕ → ℕ → ℕ → Type 0
 NoneFrom p haystack end from upto = (at : ℕ) → from ≤ at → at < upto → NoneBeginsAt p haystack end at
 
--- of each place from one up to another there is a mark, in a list that has that of the start first
+-- there is a mark of each offset between two offsets, in a list that begins with the mark of `start`
 abbrev pub AreMarks : BackTables → List ℕ → ℕ → List ℕ → ℕ → ℕ → ℕ → Type 0
 AreMarks p haystack end marks start from upto =
     (at : ℕ) → from ≤ at → at < upto → IsMark p haystack end at (slice_index marks (at - start))
 
--- where a list goes on after an answer
-abbrev pub place_by : GoesOn → Span → Option MatchValue → ℕ
-place_by AtEnd = place_behind
-place_by AfterStart = place_further
+-- the offset from which a list continues after an answer
+abbrev pub offset_by : Continuation → Span → Option MatchValue → ℕ
+offset_by AtEnd = offset_at_end
+offset_by AfterStart = offset_after_start
 
--- where the list goes on at a place, marks stand before one, and up to one it is known what begins; what stands before
--- the place was looked up
+-- the list continues at `at`. There are marks before one offset, and up to another it is known what begins. The bytes
+-- before `at` were looked up
 pub record IsPlaced (longest : ℕ) (span : Span) (at : ℕ) (m : Marks) : Type 0 where
   pub after : span.start ≤ at
   pub inside : at ≤ span.end
@@ -111,21 +113,21 @@ pub record IsPlaced (longest : ℕ) (span : Span) (at : ℕ) (m : Marks) : Type 
   pub listed : m.upto ≤ m.first + max longest LEAST
   pub upto_known : m.upto ≤ m.known
 
--- where an iteration goes on at a place: so, if no pattern is longer than a block; else nothing is known behind it
+-- an iteration continues at `at`: with marks, if no pattern is longer than a block; otherwise nothing is known from
+-- there on
 pub record IsAhead (longest : ℕ) (span : Span) (at : ℕ) (m : Marks) : Type 0 where
   pub after : span.start ≤ at
   pub inside : at ≤ span.end
   pub short : longest ≤ LEAST → IsPlaced longest span at m
   pub long : LEAST < longest → m.known ≡ at
 
--- in numbers there are marks of each place from there on before the one, and from that on nothing begins up to where
--- it is known
+-- there are marks of each offset from `at` on up to one, and from there up to the known offset no pattern begins
 pub record AreMarked (p : BackTables) (haystack : List ℕ) (span : Span) (at : ℕ) (numbers : List ℕ) (m : Marks)
     : Type 0 where
   pub marks : AreMarks p haystack span.end numbers m.first at m.upto
   pub none : (k : ℕ) → at ≤ k → m.upto ≤ k → k < m.known → NoneBeginsAt p haystack span.end k
 
--- a block is marked that begins at a place, and goes as far as the longest pattern is long, or to the end of the span
+-- the block that begins at an offset is marked: it is as long as the longest pattern, or ends with the span
 pub record IsBlockMarked (longest : ℕ) (span : Span) (from : ℕ) (m : Marks) : Type 0 where
   pub first : m.first ≡ from
   pub upto : m.upto ≤ m.known
@@ -134,13 +136,13 @@ pub record IsBlockMarked (longest : ℕ) (span : Span) (from : ℕ) (m : Marks) 
   pub full : (m.known ≡ span.end) ⊎ (from + longest ≤ m.known)
   pub listed : m.upto ≤ from + max longest LEAST
 
--- a number was read for the byte at a place, and the walk goes on from there
+-- a number was read for the byte at an offset, and the walk continues from there
 pub record IsRead (p : BackTables) (haystack : List ℕ) (from at code : ℕ) : Type 0 where
   pub mark : IsMark p haystack from at code
-  pub stands : StandsDown p haystack from at (code % 2 ^ 31)
+  pub stands : HasReadBack p haystack from at (code % 2 ^ 31)
 
--- a match begins at a place or behind it, is not empty and ends in the span, and has one of the lengths, which is not
--- above the longest
+-- a match begins at an offset or after it, is not empty, ends in the span, is no longer than the longest pattern, and
+-- names one of the patterns
 pub record IsMatchBy (b : Backward) (span : Span) (at : ℕ) (found : MatchValue) : Type 0 where
   pub after : at ≤ found.start
   pub some : found.start < found.end
@@ -148,7 +150,7 @@ pub record IsMatchBy (b : Backward) (span : Span) (at : ℕ) (found : MatchValue
   pub short : found.end ≤ found.start + b.table.longest
   pub pattern : found.pattern < length b.lens.now
 
--- it is known what begins at a place and some way behind it, and nothing begins between it and the answer
+-- it is known what begins at the answered offset and some way after it, and nothing begins before it
 pub record HasLookedAhead (b : Backward) (haystack : List ℕ) (span : Span) (from : ℕ) (numbers numbers_new : List ℕ)
     (m new : Marks) (old_counts counts : Counts) (result : Result ℕ Damaged) : Type 0 where
   pub later : IfOk result (λ at. (from ≤ at) × (at ≤ new.known))

@@ -4,17 +4,17 @@ use Rattle.literal_search.specs.Overlapping.{OverlappingValue}
 use Rattle.literal_search.specs.PreparedOverlapping.{AreSized, IsPreparedOverlapping, overlapping_len, tables_in}
 use Rattle.literal_search.specs.declared.overlapping.Parts.{Parts}
 
--- what a caller sees of an `Overlapping`
+-- an `Overlapping` as callers see it
 abbrev pub overlapping_of : Parts → OverlappingValue
 overlapping_of p =
     record { patterns = map (λ pattern. pattern.items) p.patterns.items; ignore_case = p.ignore_case }
 
--- numbers are prepared for a search, and no more; there are as many classes and rows as its patterns need
+-- the numbers are just those prepared for a search, with as many classes and rows as the patterns need
 pub record AreListed (search : OverlappingValue) (numbers : List ℕ) : Type 0 where
   pub prepared : IsPreparedOverlapping search numbers
   pub long : length numbers ≡ overlapping_len numbers
   pub sized : AreSized (tables_in search numbers)
 
--- what the fields keep: numbers for the search
+-- the fields hold the numbers of the search
 abbrev pub AreParts : Parts → Type 0
 AreParts p = AreListed (overlapping_of p) p.numbers

@@ -18,7 +18,7 @@ use Rattle.literal_search.specs.declared.backward.Backward.{Backward}
 use Rattle.literal_search.specs.declared.backward.Marks.{Marks}
 use Rattle.literal_search.specs.declared.backward.TheConstants.{LEAST}
 
--- the parts of an array that begins as a prepared search of a version, where the classes stand behind the rows too
+-- the parts of an array that begins with a prepared search of a version; the rows include the classes after them
 pub record IsSplit (version : ℕ) (numbers classes : List ℕ) (width : ℕ) (lengths rows : List ℕ)
     (longest : ℕ) : Type 0 where
   pub parts : HasParts version numbers
@@ -33,7 +33,7 @@ pub record IsSplit (version : ℕ) (numbers classes : List ℕ) (width : ℕ) (l
 abbrev pub IsHeader : ℕ → Header → Type 0
 IsHeader version f = IsSplit version f.numbers.now f.classes.now f.width f.lengths.now f.rows.now f.longest
 
--- what a walk reads of them
+-- the table that a walk reads
 abbrev pub header_table : Header → Table
 header_table f =
     record {
@@ -43,27 +43,27 @@ header_table f =
       longest = f.longest;
     }
 
--- numbers stand in a list from a place on, and the rest of it is as it was
+-- numbers are written into a list from an index on, and the rest of it is unchanged
 abbrev pub Puts : ℕ → List ℕ → List ℕ → List ℕ → Type 0
 Puts at numbers old new = new ≡ splice old at (at + length numbers) numbers
 
--- numbers are put into the first places of an array, unless it is too short
+-- numbers are written into the first entries of an array, unless it is too short
 abbrev pub IsPut : List ℕ → List ℕ → List ℕ → Result ℕ ArrayTooShort → Type 0
 IsPut numbers old new result = MatchResult result
     (λ needed. (needed ≡ length numbers) × (needed ≤ length old) × Puts 0 numbers old new)
     (λ error. (error.needed ≡ length numbers) × (length old < error.needed) × (new ≡ old))
 
--- numbers behind a version and their check
+-- numbers after a version and their checksum
 abbrev pub checked : ℕ → List ℕ → List ℕ
 checked version numbers = version ∷ check_of numbers ∷ numbers
 
--- the numbers of a prepared search, which may have lists behind its rows and classes
+-- the numbers of a prepared search, with lists after its rows and classes, if any
 abbrev pub numbers_for : ℕ → List ℕ → ℕ → List (List ℕ) → List ℕ → List ℕ → List ℕ → List ℕ
 numbers_for version classes width patterns rows starts ends =
     checked version (width ∷ length patterns ∷ length rows ∷ longest_of patterns
     ∷ map (λ bytes. length bytes) patterns ++ (rows ++ packed_classes classes) ++ starts ++ ends)
 
--- what a search from the right reads of an array, whatever that is prepared for
+-- the parts of an array that a backward walk reads, for every search for which the array is prepared
 pub record IsBackIn (numbers : List ℕ) (b : Backward) : Type 0 where
   pub parts : HasAllParts numbers
   pub safe : IsSafe b
@@ -74,7 +74,8 @@ pub record IsBackIn (numbers : List ℕ) (b : Backward) : Type 0 where
   pub end : LENGTHS_AT + length b.lens.now + length b.table.rows.now + length b.prints.now
       ≡ prepared_len numbers
 
--- where the list goes on there are marks, for whatever the array is prepared for, if no pattern is longer than a block
+-- there are marks where the list continues, for every search for which the array is prepared, if no pattern is longer
+-- than a block
 pub record GoesOnBy (numbers haystack : List ℕ) (span : Span) (at : ℕ) (codes : List ℕ) (m : Marks) : Type 0 where
   pub ahead : IsAhead (longest_in numbers) span at m
   pub marked : longest_in numbers ≤ LEAST

@@ -1,4 +1,4 @@
--- A text that is read piece by piece, and written with its matches replaced.
+-- A text that is read in pieces, and written with its matches replaced.
 use Rattle.std.specs.Prelude.{◌≡◌, ℕ, ◌+◌, ◌≤◌, ◌++◌, [], Bool, true, List, Option, Some, drop, length, take}
 use Rattle.std.specs.Io.KnownBytes.{Appends, Consumes}
 use Rattle.std.specs.IoError.{error_kind}
@@ -14,10 +14,10 @@ use Rattle.literal_search.specs.declared.replace_stream.ReplaceStreamError.TheVa
 use Rattle.literal_search.specs.declared.stream.SoFar.{SoFar}
 use Rattle.literal_search.specs.declared.stream.SoFar.TheVariants.{Found, NoneBefore}
 
--- what is written of the bytes ahead up to where this is known of them: a match by its replacement
+-- the output for the known part of the bytes ahead, with its match replaced
 abbrev pub known_part : List (List ℕ) → List ℕ → SoFar → List ℕ
 known_part replacements ahead (Found found) = take found.start ahead ++ pattern_at replacements found.pattern
-known_part replacements ahead (NoneBefore place) = take place ahead
+known_part replacements ahead (NoneBefore offset) = take offset ahead
 
 -- a text from an offset on, with its matches replaced
 pub record IsReplacedFrom (search : SearchValue) (text : List ℕ) (replacements : List (List ℕ)) (at : ℕ)
@@ -26,8 +26,8 @@ pub record IsReplacedFrom (search : SearchValue) (text : List ℕ) (replacements
   pub are_greedy : IsGreedy search.query search.ignore_case text at matches
   pub is_replaced : answer ≡ replaced text replacements at matches
 
--- the bytes ahead of an offset are replaced up to a later one: with what is put in place of all behind that, they make
--- the text from the earlier one on, whatever follows them, or, where the text is over, nothing
+-- the bytes ahead from an offset to a later one are replaced: followed by the replaced rest, they are the replaced text
+-- from the first offset on, whatever follows, or nothing if the text has ended
 pub record WritesOn (search : SearchValue) (replacements : List (List ℕ)) (is_whole : Bool) (from to : ℕ)
     (ahead out : List ℕ) : Type 0 where
   pub later : from ≤ to
@@ -36,7 +36,7 @@ pub record WritesOn (search : SearchValue) (replacements : List (List ℕ)) (is_
       → IsReplacedFrom search (before ++ (ahead ++ more)) replacements to rest
       → IsReplacedFrom search (before ++ (ahead ++ more)) replacements from (out ++ rest)
 
--- of a text that was read, what comes before an offset is written with its matches replaced, and the rest is held
+-- the bytes of a read text before an offset are written with their matches replaced, and the rest is held
 pub record HasWritten (search : SearchValue) (replacements : List (List ℕ)) (is_whole : Bool) (at : ℕ)
     (ahead : List ℕ) (unread left held written : Option (List ℕ)) : Type 0 where
   pub text : List ℕ
@@ -46,7 +46,7 @@ pub record HasWritten (search : SearchValue) (replacements : List (List ℕ)) (i
   pub writes : Appends held written out
   pub so_far : WritesOn search replacements is_whole 0 at text out
 
--- it is the error with which reading or writing failed, by its kind
+-- this is the error with which reading or writing failed, by its kind
 abbrev pub IsOfFailure : Option ErrorKind → Option ErrorKind → ReplaceStreamError → Type 0
 IsOfFailure reading writing NotOneForEach = ⊥
 IsOfFailure reading writing OutOfMemory = ⊥

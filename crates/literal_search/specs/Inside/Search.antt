@@ -1,4 +1,4 @@
--- The fields of `Parts`, and what private functions that build a search cite.
+-- The fields of `Parts`, and definitions for private functions that build a search.
 use Rattle.std.specs.Prelude.{◌≡◌, ◌<◌, ◌≤◌, ℕ, List, ◌++◌, length, map}
 use Rattle.literal_base.specs.MatchValue.{MatchValue}
 use Rattle.literal_base.specs.Occurs.{between}
@@ -18,15 +18,15 @@ use Rattle.literal_search.specs.declared.search.Parts.{Parts}
 abbrev pub patterns_of : Parts → List (List ℕ)
 patterns_of p = map (λ pattern. pattern.items) p.patterns.items
 
--- what a caller sees of a `Search`
+-- a `Search` as callers see it
 abbrev pub search_value : Parts → SearchValue
 search_value p = search_by p.kind p.ignore_case (patterns_of p)
 
--- what a search from the right reads of them
+-- the tables of a backward walk
 abbrev pub tables_of : Parts → BackTables
 tables_of p = back_tables_in (search_value p) p.numbers
 
--- numbers are prepared for a search, and no more; there are as many classes and rows as its patterns need
+-- the numbers are just those prepared for a search, with as many classes and rows as the patterns need
 pub record AreKept (search : SearchValue) (numbers : List ℕ) : Type 0 where
   pub prepared : IsPrepared search numbers
   pub long : length numbers ≡ prepared_len numbers
@@ -34,11 +34,11 @@ pub record AreKept (search : SearchValue) (numbers : List ℕ) : Type 0 where
   pub rows : IsRowsLength (texts_back (back_tables_in search numbers)) (width_in numbers)
       (length (rows_in numbers))
 
--- what the fields keep: numbers for the search
+-- the fields hold the numbers of the search
 abbrev pub AreParts : Parts → Type 0
 AreParts p = AreKept (search_value p) p.numbers
 
--- the matches so far, before a place: whatever is the list of the rest goes on from them
+-- the matches so far, before an offset: followed by the list of the rest, they are the list of the span
 pub record IsGreedyUpTo (search : SearchValue) (haystack : List ℕ) (span : Span) (done : List MatchValue) (at : ℕ)
     : Type 0 where
   pub after : span.start ≤ at
@@ -47,11 +47,11 @@ pub record IsGreedyUpTo (search : SearchValue) (haystack : List ℕ) (span : Spa
       → IsGreedyIn search.query search.ignore_case haystack (between at span.end) more
       → IsGreedyIn search.query search.ignore_case haystack span (done ++ more)
 
--- so long is the shortest of some patterns, where there is one
+-- this is the length of the shortest pattern, if there is one
 abbrev pub IsShortestOf : ℕ → List (List ℕ) → Type 0
 IsShortestOf n patterns = 0 < length patterns → n ≡ shortest_of patterns
 
--- the error of the same name
+-- the error with the same name
 abbrev pub IsErrorOf : GrowError → BuildError → Type 0
 IsErrorOf grow_error.OutOfMemory error = error ≡ OutOfMemory
 IsErrorOf grow_error.TooManyStates error = error ≡ TooManyStates

@@ -1,4 +1,4 @@
--- The rows for some texts, and the first of the patterns that are a suffix of a text.
+-- The rows for some texts, and the first pattern that is a suffix of a text.
 use Rattle.std.specs.Prelude.{◌≡◌, ℕ, ◌<◌, ◌≤◌, List, length, map, slice_index}
 use Rattle.std.specs.Global.{Vec}
 use Rattle.literal_base.specs.Occurs.{pattern_at}
@@ -7,7 +7,7 @@ use Rattle.literal_search.specs.Inside.Suffixes.{IsSuffix}
 use Rattle.literal_search.specs.States.{IsRowsLength}
 use Rattle.literal_search.specs.Table.{Recognises}
 
--- the classes of the bytes of patterns
+-- the patterns as texts of classes
 abbrev pub texts_by : List ℕ → List (Vec ℕ) → List (List ℕ)
 texts_by classes patterns = map (symbols_in classes) (map (λ (pattern : Vec ℕ). pattern.items) patterns)
 
@@ -16,12 +16,12 @@ pub record AreRowsFor (texts : List (List ℕ)) (width : ℕ) (rows : List ℕ) 
   pub recognises : Recognises texts width rows
   pub states : IsRowsLength texts width (length rows)
 
--- of the patterns that are a suffix of a text this one is the first in the list
+-- this pattern is the first in the list that is a suffix of a text
 pub record IsFirstOf (patterns : List (List ℕ)) (text : List ℕ) (first : ℕ) : Type 0 where
   pub is : IsSuffix patterns text first
   pub least : (i : ℕ) → IsSuffix patterns text i → first ≤ i
 
--- for each pattern up to one the first of those that are a suffix of it
+-- each pattern up to a bound has the first one that is a suffix of it
 pub record AreFirst (patterns : List (List ℕ)) (firsts : List ℕ) (count : ℕ) : Type 0 where
   pub long : length firsts ≡ count
   pub each : (i : ℕ) → i < count → IsFirstOf patterns (pattern_at patterns i) (slice_index firsts i)

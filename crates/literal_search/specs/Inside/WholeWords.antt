@@ -1,4 +1,4 @@
--- What whole words are searched for by, and those that begin at one offset.
+-- The data of a search for whole words, and the whole words that begin at one offset.
 use Rattle.std.specs.Prelude.{◌≡◌, ◌⊎◌, ◌+◌, ◌*◌, ◌++◌, ◌<◌, ◌≤◌, ℕ, Bool, List, MatchOption, Option, length}
 use Rattle.literal_base.specs.Counts.{Counts}
 use Rattle.literal_base.specs.Leftmost.{IsBetter}
@@ -17,13 +17,13 @@ use Rattle.literal_search.specs.declared.whole_words.Parts.{Parts}
 use Rattle.literal_search.specs.declared.word_search.KnownStarts.{KnownStarts}
 use Rattle.literal_search.specs.declared.word_search.Words.{Words}
 
--- what whole words are searched for by: a search, the kind by which a word is taken, and the word bytes
+-- the data of a search for whole words: a search, the match kind, and the word bytes
 pub record WordParts : Type 0 where
   pub kind : MatchKind
   pub search : SearchValue
   pub word_bytes : List Bool
 
--- what a caller sees of a `WholeWords`
+-- a `WholeWords` as callers see it
 abbrev pub whole_words_value : WordParts → WholeWordsValue
 whole_words_value p = record {
   search = search_by p.kind p.search.ignore_case p.search.query.patterns;
@@ -47,7 +47,7 @@ pub record IsWord (p : WordParts) (haystack : List ℕ) (span : Span) (found : M
   pub whole : found.end ≡ found.start + length (pattern_at p.search.query.patterns found.pattern)
   pub some : found.start < found.end
 
--- of the whole words that begin at the start of a span, and lie whole in it, a tie rule takes this one
+-- the whole word that a tie rule prefers, of those that begin at the start of a span and lie whole in it
 pub record IsBestWord (kind : MatchKind) (p : WordParts) (haystack : List ℕ) (span : Span) (found : MatchValue)
     : Type 0 where
   pub word : IsWord p haystack span found
@@ -60,12 +60,12 @@ IsFirstUpTo p haystack span end answer = MatchOption answer
     (λ found. IsWord p haystack span found × ((i : ℕ) → IsWordAt p haystack span i
     → (span.start + length (pattern_at p.search.query.patterns i) ≤ end) ⊎ (found.pattern ≤ i)))
 
--- at most one byte more is looked up than the longest pattern has, for each byte by which an end gets on to another
+-- at most one byte more than the longest pattern has is looked up for each byte by which an end advances
 pub record ScansEnds (longest start end : ℕ) (old new : Counts) : Type 0 where
   pub others : new ≡ record old { scanned = new.scanned }
   pub most : new.scanned + start * (longest + 1) ≤ old.scanned + end * (longest + 1)
 
--- the one of two matches whose pattern is no later in the list
+-- the match whose pattern is not later in the list, of two
 abbrev pub IsEarlier : Option MatchValue → MatchValue → MatchValue → Type 0
 IsEarlier first found answer = MatchOption first (answer ≡ found) (λ other.
     ((answer ≡ other) × (other.pattern ≤ found.pattern)) ⊎ ((answer ≡ found) × (found.pattern ≤ other.pattern)))
@@ -74,33 +74,34 @@ IsEarlier first found answer = MatchOption first (answer ≡ found) (λ other.
 abbrev pub owned_parts : Parts → WordParts
 owned_parts p = record { kind = p.kind; search = p.search; word_bytes = p.word_bytes }
 
--- a search, with the kind and the word bytes of what is read
+-- a search, with the match kind and the word bytes of the data
 abbrev pub word_parts : Words → SearchValue → WordParts
 word_parts w search = record { kind = w.kind; search = search; word_bytes = w.word_bytes }
 
--- the tables that are read are those of a search, and so are the kind and the word bytes
+-- the tables are those of a search, with the match kind and the word bytes
 pub record AreWordsFor (parts : WordParts) (w : Words) : Type 0 where
   pub safe : IsSafe w.backward
   pub is_for : AreBackFor parts.search w.backward
   pub same : word_parts w parts.search ≡ parts
 
--- they are in an array, which may be prepared for any search, or none
+-- the tables are those of an array, which may be prepared for any search, or for none
 pub record AreWordsIn (words : PreparedWordsValue) (w : Words) : Type 0 where
   pub back : IsBackIn words.numbers w.backward
   pub same : (search : SearchValue) → word_parts w search
       ≡ record { kind = words.kind; search = search; word_bytes = words.word_bytes }
 
--- what holds of whatever search it is that takes the longest match, and whose tables are read
+-- a property holds of every search that takes the longest match and whose tables these are
 abbrev pub ForWords : Words → (WordParts → Type 0) → Type 0
 ForWords w P = (search : SearchValue) → AreBackFor search w.backward → AreWordParts (word_parts w search)
     → P (word_parts w search)
 
--- the match begins where a span does, is not empty and ends in the span, and has one of the lengths
+-- the match begins at the start of a span, is not empty, ends in the span, is no longer than the longest pattern, and
+-- names one of the patterns
 pub record IsMatchAtStart (w : Words) (span : Span) (found : MatchValue) : Type 0 where
   pub start : found.start ≡ span.start
   pub lies : IsMatchBy w.backward span span.start found
 
--- where the next start is looked for, and the starts that are known from there on, in a span that is valid
+-- the offset from which the next start is looked for, and the starts that are known from there on, in a valid span
 pub record AreKnownStarts (w : Words) (haystack : List ℕ) (span : Span) (s : KnownStarts) : Type 0 where
   pub safe : IsSafe w.backward
   pub valid : IsValidSpan haystack span
@@ -110,7 +111,7 @@ pub record AreKnownStarts (w : Words) (haystack : List ℕ) (span : Span) (s : K
   pub marked : w.backward.table.longest ≤ LEAST
       → ForBackward w.backward (λ tables. AreMarked tables haystack span s.at s.numbers s.marks)
 
--- the whole words so far, before a place: whatever is the list of the rest goes on from them
+-- the whole words so far, before an offset: followed by the list of the rest, they are the list of the span
 pub record AreWordsUpTo (words : WholeWordsValue) (haystack : List ℕ) (span : Span) (done : List MatchValue) (at : ℕ)
     : Type 0 where
   pub after : span.start ≤ at

@@ -1,8 +1,8 @@
-//! A checked reader as what bytes are read from.
+//! A checked reader as a source of bytes.
 use super::{Checked, Failed, Source};
 use std::io::Read;
 
-/// Its bytes are those of the reader, and a read fails exactly where the reader's does.
+/// The source has the reader's bytes. A read fails exactly if the reader's read does.
 impl<R: Read> Source for Checked<R> {
     ghost remaining = { λ c. R.remaining c.inner };
 

@@ -1,9 +1,9 @@
-//! A checked writer as what bytes are written to.
+//! A checked writer as a sink for bytes.
 use super::{Checked, Failed, Sink};
 use std::io::Write;
 
-/// Its bytes are those of the writer. A write fails where the writer's does or takes no byte of a
-/// buffer that has some, and a flush where the writer's does.
+/// The sink has the writer's bytes. A write fails if the writer's does, or if it writes no byte of a non-empty buffer.
+/// A flush fails if the writer's does.
 impl<W: Write> Sink for Checked<W> {
     ghost contents = { λ c. W.contents c.inner };
 

@@ -1,4 +1,4 @@
-//! Runs over readers and writers in memory that give or take little, fail, or refuse.
+//! Runs over readers and writers in memory that transfer few bytes a call, fail, or refuse.
 ghost use Rattle.std.specs.Prelude.{◌≤◌, map, IfOk, string_bytes};
 ghost use Rattle.litfind.specs.Lines.{AreLines};
 
@@ -12,7 +12,7 @@ use std::io::{Read, Write};
 use std::process::Abort;
 use std::test::Fail;
 
-/// A reader of bytes in memory, a few a call, whose call of this number fails.
+/// A reader of bytes in memory, a few at each call. The call of this number fails.
 #[derive(Drop)]
 struct SlowReader<'a> {
     rest: &'a [u8],
@@ -35,8 +35,8 @@ impl Read for SlowReader<'_> {
     }
 }
 
-/// A writer into memory, a few bytes a call, whose write of one number fails and of another takes
-/// nothing, and whose flush of one number fails. No call of it asks for memory.
+/// A writer into memory, a few bytes at each call. The write of one number fails, that of another writes nothing, and
+/// the flush of one number fails. No call requests memory.
 #[derive(Drop)]
 struct SlowWriter {
     held: [u8; 64],
@@ -130,7 +130,7 @@ fn answer(
     Ok(run(alloc, words.as_slice(), &mut reader, &mut writer))
 }
 
-/// What is answered, and what its writer holds.
+/// Checks the result of a run, and the bytes in the writer.
 fn assert_ends<N: Display + Drop>(
     rt: &impl Abort,
     answer: Result<bool, Fault>,
@@ -143,7 +143,7 @@ fn assert_ends<N: Display + Drop>(
     assert_eq!(rt; writer.held(), output, "{case}");
 }
 
-/// What is answered and written for words and an input.
+/// Checks the result and the output for some arguments and an input.
 fn assert_prints(
     rt: &impl Abort,
     alloc: Global,
@@ -226,7 +226,7 @@ fn prints_the_leftmost_match(rt: HostRuntime) -> Result<(), Fail> {
     Ok(())
 }
 
-/// What is answered to words for an input, and what of it is written.
+/// The result for some arguments and an input, and the output.
 fn answer_to(
     alloc: Global,
     words: &[String],
@@ -241,7 +241,7 @@ fn answer_to(
     )
 }
 
-/// A mode, and so many times `foo`.
+/// A mode, and `foo` this many times.
 fn of_foos(alloc: Global, mode: &str, count: usize) -> Result<Vec<String>, AllocError> {
     let mut words = Vec::new(alloc);
     words.push(String::from_str(alloc, mode)?)?;
@@ -291,7 +291,7 @@ fn takes_no_empty_pattern(rt: HostRuntime) -> Result<(), Fail> {
     Ok(())
 }
 
-/// A read of this number that fails is reported, and then nothing is written.
+/// If the read of this number fails, that is reported, and nothing is written.
 fn assert_reports_read(rt: &impl Abort, alloc: Global, failing: u32) -> Result<(), AllocError> {
     let mut writer = SlowWriter::new(64);
     let reader = one_byte_a_call(INPUT, failing);
@@ -303,14 +303,14 @@ fn assert_reports_read(rt: &impl Abort, alloc: Global, failing: u32) -> Result<(
 
 #[test]
 fn reports_each_failed_read(rt: HostRuntime) -> Result<(), Fail> {
-    // 51 calls give a byte, and the last one finds the end.
+    // 51 calls read a byte, and the last one finds the end.
     for failing in 1..53 {
         assert_reports_read(&rt, rt.alloc(), failing)?;
     }
     Ok(())
 }
 
-/// A write that fails is reported, and this much of the lines was written.
+/// A failed write is reported, and this part of the lines was written.
 fn assert_reports_write(
     rt: &impl Abort,
     alloc: Global,
@@ -341,7 +341,7 @@ fn reports_a_failed_write(rt: HostRuntime) -> Result<(), Fail> {
     assert_flushes_an_empty_text(&rt, rt.alloc())
 }
 
-/// Where there is no line the flush fails too.
+/// The flush fails also if there is no line.
 fn assert_flushes_an_empty_text(rt: &impl Abort, alloc: Global) -> Result<(), Fail> {
     let mut writer = SlowWriter::new(64);
     writer.failing_flush = 1;
@@ -351,7 +351,7 @@ fn assert_flushes_an_empty_text(rt: &impl Abort, alloc: Global) -> Result<(), Fa
     Ok(())
 }
 
-/// What a checked reader tells after a call: whether it has failed, and whether it has ended.
+/// The state of a checked reader after a call: whether it has failed, and whether it has ended.
 fn reader_tells(reader: &Checked<SlowReader<'_>>) -> (bool, bool) {
     (reader.has_failed(), reader.has_ended())
 }
@@ -401,7 +401,7 @@ fn says_what_is_wrong(rt: HostRuntime) -> Result<(), Fail> {
     Ok(())
 }
 
-/// Where a request for memory is refused nothing is written, and the run made again succeeds.
+/// If a request for memory is refused, nothing is written, and a repeated run succeeds.
 fn assert_runs(
     rt: &impl Abort,
     alloc: Global,
@@ -430,7 +430,7 @@ fn refused_runs(rt: HostRuntime) -> Result<(), AllocError> {
     assert_runs(&rt, rt.alloc(), words, b"zab", b"1 1 3\n")
 }
 
-/// What is written for an input, over memory, where both ends tell their bytes.
+/// The output for an input, with a reader and a writer in memory, whose bytes contracts know.
 fn written(alloc: Global, words: &[String], input: &[u8]) -> Result<Vec<u8>, Fault>
     ensures { IfOk result (λ output. AreLines (map string_bytes words.now) input.now output.items) }
 {

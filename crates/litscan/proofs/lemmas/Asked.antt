@@ -1,9 +1,9 @@
--- Occurrences of words in a line that are as is asked for. For `asked` and `scan`.
+-- Occurrences of words in a line that `-w` and `-x` allow. For `asked` and `scan`.
 use Rattle.std.proofs.Common.{◌≡◌, ℕ, ◌+◌, ◌<◌, ◌≤◌, ◌&&◌, Bool, true, false, List, [], length, get_or}
 use Rattle.std.proofs.Common.{Option, Some, None, MatchOption, is_some, slice_range}
 use Rattle.std.proofs.Common.{sym, subst, ◌∙◌, arith, inl, inr}
-use Rattle.std.proofs.lemmas.Bool.{and_from, and_parts, both_ways, cases_Bool, cases_lt, cond-false}
-use Rattle.std.proofs.lemmas.Bool.{le-leb, leb-true}
+use Rattle.std.proofs.lemmas.Bool.{and_from, and_parts, both_ways, cases_Bool, cases_lt, cond-false, cond-true}
+use Rattle.std.proofs.lemmas.Bool.{le-leb, leb-true, not-true}
 use Rattle.std.proofs.lemmas.List.{get_or_default}
 use Rattle.std.proofs.lemmas.List.Folds.{Any-from_list_any, list_any_at}
 use Rattle.std.proofs.lemmas.List.FromFn.{get_or-range_with_len, length-range_with_len}
@@ -17,14 +17,15 @@ use Rattle.literal_base.proofs.lemmas.Met.{occurs_if, one_occurs_if}
 use Rattle.literal_base.specs.declared.packed.MatchKind.TheVariants.{LeftmostLongest}
 use Rattle.literal_base.specs.declared.search.Span.{Span}
 use Rattle.literal_search.specs.SearchValue.{SearchValue}
-use Rattle.litscan.specs.Asked.{IsFirstAsked, NothingAsked, OccursAsked, is_asked, one_asked}
+use Rattle.litscan.specs.Asked.{IsFirstAsked, NothingAsked, OccursAsked, is_asked, is_before_word, is_behind_word}
+use Rattle.litscan.specs.Asked.{one_asked}
 use Rattle.litscan.specs.declared.options.Options.{Options}
 
 module _ (search : SearchValue) (options : Options) (line : List ℕ) where
   abbrev size : ℕ → ℕ
   size i = length (pattern_at search.query.patterns i)
 
-  -- what occurs in a span occurs in another one that it lies in as well
+  -- an occurrence in one span is an occurrence in each span that contains it
   pub occurs_in : {a b : Span} {i at : ℕ} → Occurs search.query.patterns search.ignore_case line a i at
       → b.start ≤ at → at + length (pattern_at search.query.patterns i) ≤ b.end
       → Occurs search.query.patterns search.ignore_case line b i at
@@ -40,7 +41,26 @@ module _ (search : SearchValue) (options : Options) (line : List ℕ) where
       → OccursAsked search options line b i at
   asked_in o after before = record { occurs = occurs_in o.occurs after before; asked = o.asked }
 
-  -- of the patterns that occur at the place of a leftmost match none is longer
+  -- without `-x`, an occurrence can be refused only by `-w`
+  pub asks_alone : (start end : ℕ) → options.whole ≡ false → is_asked options line start end ≡ false
+      → options.alone ≡ true
+  asks_alone start end part other =
+      elim (cases_Bool options.alone) [
+        | inl alone ↦ alone
+        | inr any ↦
+            absurd (both_ways (is_asked options line start end) other
+            (cond-false options.whole _ _ part ∙ cond-false options.alone _ _ any))
+      ]
+
+  -- with `-w` and without `-x`, an allowed occurrence has no word byte next to it
+  pub has_sides : (start end : ℕ) → options.whole ≡ false → options.alone ≡ true
+      → is_asked options line start end ≡ true
+      → (is_behind_word line start ≡ false) × (is_before_word line end ≡ false)
+  has_sides start end part alone asked =
+      let both = and_parts _ _ (sym (cond-false options.whole _ _ part ∙ cond-true options.alone _ _ alone) ∙ asked) in
+      (not-true _ both.0, not-true _ both.1)
+
+  -- no pattern that occurs at the start of a leftmost match is longer than the match
   pub none_longer : {span : Span} {found : MatchValue} → search.query.kind ≡ LeftmostLongest
       → IsLeftmostMatch search.query search.ignore_case line span found → (i : ℕ)
       → Occurs search.query.patterns search.ignore_case line span i found.start
@@ -53,7 +73,7 @@ module _ (search : SearchValue) (options : Options) (line : List ℕ) where
         | inr not_longer ↦ omega (arith, leftmost.whole, not_longer)
       ]
 
-  -- what is as is asked for, and begins where a leftmost match does that is not, is shorter
+  -- if a leftmost match is not allowed, each allowed occurrence at its start is shorter
   pub is_shorter : {span : Span} {found : MatchValue} → search.query.kind ≡ LeftmostLongest
       → IsLeftmostMatch search.query search.ignore_case line span found
       → is_asked options line found.start found.end ≡ false → (i : ℕ)
@@ -69,7 +89,7 @@ module _ (search : SearchValue) (options : Options) (line : List ℕ) where
             (subst (λ end. is_asked options line found.start end ≡ true) same o.asked))
       ]
 
-  -- what is first in a span is so in another one, whose other places in front begin nothing that is asked for
+  -- the first allowed occurrence in a span is the first in a longer span, if no allowed one begins before the shorter
   pub first_from : {a b : Span} {found : MatchValue} → b.start ≤ a.start → a.end ≡ b.end
       → ((i at : ℕ) → OccursAsked search options line b i at → a.start ≤ at)
       → IsFirstAsked search options line a found → IsFirstAsked search options line b found
@@ -81,7 +101,7 @@ module _ (search : SearchValue) (options : Options) (line : List ℕ) where
     longest = λ i o. is.longest i (asked_in o (begins i found.start o) (omega (arith, o.occurs.before_end, end)));
   }
 
-  -- the first that is as is asked for, where the leftmost match is not so, and a shorter one at its place is
+  -- if the leftmost match is not allowed, but a shorter occurrence at its start is, the latter is the first allowed one
   pub first_shorter : {span : Span} {found shorter : MatchValue} {start end : ℕ}
       → search.query.kind ≡ LeftmostLongest → IsLeftmostMatch search.query search.ignore_case line span found
       → is_asked options line found.start found.end ≡ false → start ≡ found.start → end + 1 ≡ found.end
@@ -102,7 +122,7 @@ module _ (search : SearchValue) (options : Options) (line : List ℕ) where
         is.longest i (asked_in o (omega (arith, place)) (omega (arith, less, place, start_is, end_is)));
   }
 
-  -- what is as is asked for begins behind the leftmost match, where that is not so, and no shorter one at its place is
+  -- if neither the leftmost match nor a shorter occurrence at its start is allowed, each allowed one begins after it
   pub begins_behind : {span : Span} {found : MatchValue} {start end : ℕ} → search.query.kind ≡ LeftmostLongest
       → IsLeftmostMatch search.query search.ignore_case line span found
       → is_asked options line found.start found.end ≡ false → start ≡ found.start → end + 1 ≡ found.end
@@ -132,7 +152,7 @@ module _ (search : SearchValue) (options : Options) (line : List ℕ) where
   abbrev places : List ℕ
   places = range_with_len 0 (length line + 1)
 
-  -- what occurs as is asked for is told by the test
+  -- the test is true if there is an allowed occurrence
   pub one_asked_if : (i at : ℕ) → OccursAsked search options line (rest_from line 0) i at
       → one_asked search options line ≡ true
   one_asked_if i at o =
@@ -171,7 +191,7 @@ module _ (search : SearchValue) (options : Options) (line : List ℕ) where
         },
       )
 
-  -- the first match as is asked for, if there is one, tells what the test does
+  -- the test is true exactly if there is a first allowed match
   pub told_by_first : (answer : Option MatchValue)
       → MatchOption answer (NothingAsked search options line (rest_from line 0))
       (IsFirstAsked search options line (rest_from line 0)) → is_some answer ≡ one_asked search options line
@@ -182,7 +202,7 @@ module _ (search : SearchValue) (options : Options) (line : List ℕ) where
       ]
   told_by_first (Some found) is = sym (one_asked_if found.pattern found.start is.occurs)
 
-  -- where all is as is asked for, the test tells whether a pattern occurs
+  -- if all occurrences are allowed, the test is true exactly if a pattern occurs
   pub told_by_any : options.whole ≡ false → options.alone ≡ false
       → one_occurs search.query.patterns search.ignore_case line ≡ one_asked search options line
   told_by_any any_place any_side =

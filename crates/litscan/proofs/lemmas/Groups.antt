@@ -10,7 +10,7 @@ use Rattle.litscan.specs.Context.{Mark, PrintsGroups, PrintsMarked, counted, is_
 use Rattle.litscan.specs.Context.{lines_before, mark_by, near, printed_between, printed_separator}
 use Rattle.litscan.specs.Inside.Groups.{GoesOn, IsWell, PrintsFrom, held_of, marks_from, next_number, next_offset}
 use Rattle.litscan.specs.Inside.Groups.{none_count}
-use Rattle.litscan.specs.Lines.{with_feed}
+use Rattle.litscan.specs.Lines.{with_end, with_feed}
 use Rattle.litscan.specs.declared.context.Context.{Context}
 use Rattle.litscan.specs.declared.options.Options.{Options}
 use Rattle.litscan.proofs.lemmas.Printing.{length-feeds}
@@ -151,7 +151,7 @@ behind_mark apart (mark ∷ marks) (suc n) below =
 -- one line among others
 pub groups_in_turn : (search : SearchValue) (options : Options) (separator name : List ℕ) (any apart : Bool)
     (number offset at behind : ℕ) (front more : List (List ℕ)) (marks : List Mark) (line out : List ℕ)
-    → at ≡ length front + number → behind ≡ length (flat_map with_feed front) + offset
+    → at ≡ length front + number → behind ≡ length (flat_map (with_end options.line_end) front) + offset
     → PrintsGroups search options separator name any apart number offset (front ++ line ∷ more) marks out
     → let mark = slice_index_or marks (length front) left_out in
     (before part after : List ℕ) × (length front < length marks)
@@ -179,7 +179,7 @@ groups_in_turn search options separator name any apart number offset at behind (
     absurd printed
 groups_in_turn search options separator name any apart number offset at behind (first ∷ front) more (mark ∷ marks)
     line out at_is behind_is printed =
-    let size = length-feeds first front in
+    let size = length-feeds options.line_end first front in
     let others = groups_in_turn search options separator name (any || is_printed mark) (not (is_printed mark))
     (number + 1) (offset + length first + 1) at behind front more marks line printed.1 (omega arith)
     (omega (arith, behind_is, size)) printed.3 in
@@ -231,7 +231,7 @@ steps_offset {old} {new} {line} is =
       arith,
       is.offset,
       ap (λ l. length (flat_map with_feed l)) is.held,
-      length-feeds line (held_of new),
+      length-feeds 10 line (held_of new),
     )
 
 -- no line is held, and the line before the next one was printed

@@ -284,7 +284,7 @@ module _ {search : SearchValue} {options : Options} {separator : List ℕ} {any 
         (so_far.goes_on [] [] [] nothing_more))))))
 
     -- what a scan answers of a text with these lines, of which no more could be read, or had to be
-    pub near_scanned : has_context options ≡ true → (text : List ℕ) → lines_of text ≡ seen
+    pub near_scanned : has_context options ≡ true → (text : List ℕ) → lines_of options.line_end text ≡ seen
         → (failure : Option ErrorKind) (old next : Option (List ℕ))
         → Reads failure (is_all options (record { count = count; failure = failure }) so_far.parts.behind) old next text
         → Answers search options separator any name old next written now (record { count = count; failure = failure })

@@ -5,7 +5,7 @@ use Rattle.std.proofs.KnownBytes.{Appends-kept, Appends-trans, Consumes-trans}
 use Rattle.std.proofs.lemmas.Bool.{cases_Bool, cases_lt}
 use Rattle.std.proofs.Common.{append-nil, append_assoc, ap, arith, cond, drop, inl, inr, length-append, refl}
 use Rattle.std.proofs.Common.{slice_range, subst, sym, take, ◌∙◌}
-use Rattle.std.proofs.lemmas.Bool.{cond-false, ne_eqb}
+use Rattle.std.proofs.lemmas.Bool.{cond-false, cond-true, eq-eqb, ne_eqb}
 use Rattle.std.proofs.lemmas.List.{drop-append-le, flat_map_more, get_or-append-add, get_or-drop}
 use Rattle.std.proofs.lemmas.List.{get_or-take, get_or_default, length-drop, length-take-le, length_push, take_more}
 use Rattle.std.proofs.lemmas.List.{drop-take, take-take}
@@ -20,7 +20,7 @@ use Rattle.literal_base.specs.Occurs.{Occurs, case_folded, pattern_at, whole_of}
 use Rattle.literal_base.specs.MatchValue.{MatchValue}
 use Rattle.literal_search.specs.SearchValue.{SearchValue}
 use Rattle.litscan.specs.Asked.{one_asked}
-use Rattle.litscan.specs.Lines.{HasNoFeed, lines_of, with_feed}
+use Rattle.litscan.specs.Lines.{HasNoEnd, lines_of, with_end}
 use Rattle.litscan.specs.Inside.Passed.{ArePassed, HasNoWord, HasWord, IsAhead, LiesInLine, Takes, lines_read}
 use Rattle.litscan.specs.Inside.Passed.{TakesNext, len_of, len_with, next_of}
 use Rattle.litscan.specs.Options.{is_enough, is_silent, limit_of}
@@ -37,275 +37,287 @@ use Rattle.litscan.proofs.lemmas.Printing.{count-append, prints_more, prints_non
 use Rattle.litscan.proofs.lemmas.Reading.{length-feeds_most, length-lines_read, read_all, read_more, reads_any}
 use Rattle.litscan.proofs.lemmas.Reading.{reads_front, stops_later}
 
-abbrev pub is_feed : ℕ → Bool
-is_feed byte = byte == 10
+module _ (line_end : ℕ) where
+  abbrev pub is_end : ℕ → Bool
+  is_end byte = byte == line_end
 
--- a text that is empty, or ends with a line feed, is some lines with a line feed behind each
-pub made_of_lines : (text : List ℕ) → (length text ≡ 0) ⊎ ((0 < length text) × (get_or text (length text - 1) 0 ≡ 10))
-    → (lines : List (List ℕ)) × All HasNoFeed lines × (text ≡ flat_map with_feed lines)
-made_of_lines text ends =
-    let are = lines_are text in
-    (are.before, are.before_whole, by (flat_map with_feed are.before) are.last are.text_is are.last_whole)
-  where
-    by : (front last : List ℕ) → text ≡ front ++ last → HasNoFeed last → text ≡ front
-    by front [] is whole = is ∙ append-nil front
-    by front (byte ∷ more) is whole =
-        let long = ap (λ (l : List ℕ). length l) is ∙ length-append front (byte ∷ more) in
-        elim ends [
-          | inl empty ↦ absurd (omega (arith, long, empty))
-          | inr feed ↦
-              let place : length text - 1 ≡ length front + length more = omega (arith, long) in
-              absurd (whole (length more) 0 (omega arith)
-              (sym (get_or-append-add front (byte ∷ more) (length more) 0)
-              ∙ ap (λ l. get_or l (length front + length more) 0) (sym is)
-              ∙ ap (λ n. get_or text n 0) (sym place) ∙ feed.1))
-        ]
+  -- a text that is empty, or ends with the end of a line, consists of lines with an end each
+  pub made_of_lines : (text : List ℕ) → (length text ≡ 0) ⊎
+      ((0 < length text) × (get_or text (length text - 1) 0 ≡ line_end))
+      → (lines : List (List ℕ)) × All (HasNoEnd line_end) lines × (text ≡ flat_map (with_end line_end) lines)
+  made_of_lines text ends =
+      let are = lines_are line_end text in
+      (are.before, are.before_whole, by (flat_map (with_end line_end) are.before) are.last are.text_is are.last_whole)
+    where
+      by : (front last : List ℕ) → text ≡ front ++ last → HasNoEnd line_end last → text ≡ front
+      by front [] is whole = is ∙ append-nil front
+      by front (byte ∷ more) is whole =
+          let long = ap (λ (l : List ℕ). length l) is ∙ length-append front (byte ∷ more) in
+          elim ends [
+            | inl empty ↦ absurd (omega (arith, long, empty))
+            | inr feed ↦
+                let place : length text - 1 ≡ length front + length more = omega (arith, long) in
+                absurd (whole (length more) 0 (omega arith)
+                (sym (get_or-append-add front (byte ∷ more) (length more) 0)
+                ∙ ap (λ l. get_or l (length front + length more) 0) (sym is)
+                ∙ ap (λ n. get_or text n 0) (sym place) ∙ feed.1))
+          ]
 
-one_feed : (line : List ℕ) → HasNoFeed line → count_by is_feed (with_feed line) ≡ 1
-one_feed [] whole = refl
-one_feed (byte ∷ more) whole =
-    let none = cond-false {A = ℕ} (is_feed byte) 1 0 (ne_eqb byte 10 (All-head Other byte more whole)) in
-    let rest = one_feed more (All-tail Other byte more whole) in
-    omega (arith, none, rest, sum_by-cons (λ b. cond (is_feed b) 1 0) byte (with_feed more))
+  one_feed : (line : List ℕ) → HasNoEnd line_end line → count_by is_end (with_end line_end line) ≡ 1
+  one_feed [] whole =
+      let one = cond-true {A = ℕ} (is_end line_end) 1 0 (eq-eqb line_end line_end refl) in
+      omega (arith, one, sum_by-cons (λ b. cond {A = ℕ} (is_end b) 1 0) line_end [])
+  one_feed (byte ∷ more) whole =
+      let none = cond-false {A = ℕ} (is_end byte) 1 0
+      (ne_eqb byte line_end (All-head (Other line_end) byte more whole)) in
+      let rest = one_feed more (All-tail (Other line_end) byte more whole) in
+      omega (arith, none, rest, sum_by-cons (λ b. cond (is_end b) 1 0) byte (with_end line_end more))
 
--- it has as many line feeds as there are lines
-pub feeds_of_lines : (lines : List (List ℕ)) → All HasNoFeed lines
-    → count_by is_feed (flat_map with_feed lines) ≡ length lines
-feeds_of_lines [] whole = refl
-feeds_of_lines (line ∷ more) whole =
-    let first = one_feed line (All-head HasNoFeed line more whole) in
-    let rest = feeds_of_lines more (All-tail HasNoFeed line more whole) in
-    let both = sum_by-append (λ b. cond (is_feed b) 1 0) (with_feed line) (flat_map with_feed more) in
-    omega (arith, first, rest, both)
+  -- it has as many ends as there are lines
+  pub feeds_of_lines : (lines : List (List ℕ)) → All (HasNoEnd line_end) lines
+      → count_by is_end (flat_map (with_end line_end) lines) ≡ length lines
+  feeds_of_lines [] whole = refl
+  feeds_of_lines (line ∷ more) whole =
+      let first = one_feed line (All-head (HasNoEnd line_end) line more whole) in
+      let rest = feeds_of_lines more (All-tail (HasNoEnd line_end) line more whole) in
+      let both = sum_by-append (λ b. cond (is_end b) 1 0) (with_end line_end line)
+      (flat_map (with_end line_end) more) in
+      omega (arith, first, rest, both)
 
-same_in_part : (front part back : List ℕ) (at n : ℕ) → at + n ≤ length part
-    → slice_range (front ++ (part ++ back)) (length front + at) (length front + at + n) ≡ slice_range part at (at + n)
-same_in_part front part back at n fits =
-    let left : length front + at + n - (length front + at) ≡ n = omega arith in
-    let left_in : at + n - at ≡ n = omega arith in
-    ap (λ l. take (length front + at + n - (length front + at)) l) (drop-append-add front (part ++ back) at
-    ∙ drop-append-le at part back (omega (arith, fits)))
-    ∙ ap (λ k. take k (drop at part ++ back)) left
-    ∙ take-append-le n (drop at part) back (omega (arith, fits, length-drop at part))
-    ∙ ap (λ k. take k (drop at part)) (sym left_in)
+  same_in_part : (front part back : List ℕ) (at n : ℕ) → at + n ≤ length part
+      → slice_range (front ++ (part ++ back)) (length front + at) (length front + at + n) ≡ slice_range part at (at + n)
+  same_in_part front part back at n fits =
+      let left : length front + at + n - (length front + at) ≡ n = omega arith in
+      let left_in : at + n - at ≡ n = omega arith in
+      ap (λ l. take (length front + at + n - (length front + at)) l) (drop-append-add front (part ++ back) at
+      ∙ drop-append-le at part back (omega (arith, fits)))
+      ∙ ap (λ k. take k (drop at part ++ back)) left
+      ∙ take-append-le n (drop at part) back (omega (arith, fits, length-drop at part))
+      ∙ ap (λ k. take k (drop at part)) (sym left_in)
 
--- where nothing is passed over nothing is taken
-pub takes_nothing : (search : SearchValue) (line : List ℕ)
-    → Takes search (record { lines = 0; bytes = 0; next = None }) line []
-takes_nothing search line = record {
-  lines = [];
-  are = record { whole = All-nil HasNoFeed; none = All-nil (HasNoWord search) };
-  count = refl;
-  bytes = refl;
-  next = tt;
-  text_is = refl;
-}
-
--- the line behind the front of a text
-pub line_behind : (bytes front line : List ℕ) (start len : ℕ) → start ≡ length front → len ≡ length line
-    → take (start + len + 1) bytes ≡ front ++ with_feed line → slice_range bytes start (start + len) ≡ line
-line_behind bytes front line start len start_is len_is is =
-    let n : start + len - start ≡ len = omega arith in
-    let all : start + len + 1 ≡ start + (len + 1) = omega arith in
-    let rest : take (len + 1) (drop start bytes) ≡ with_feed line =
-    sym (drop-take start (len + 1) bytes) ∙ ap (λ k. drop start (take k bytes)) (sym all) ∙ ap (drop start) is
-    ∙ ap (λ k. drop k (front ++ with_feed line)) start_is ∙ drop-append_seam front (with_feed line) in
-    ap (λ k. take k (drop start bytes)) n ∙ sym (take-take len (len + 1) (drop start bytes) (omega arith))
-    ∙ ap (take len) rest ∙ ap (λ k. take k (with_feed line)) len_is ∙ take-append_seam line (10 ∷ [])
-
--- so what is taken with a line is taken with a copy of it
-pub takes_copy : (search : SearchValue) (bytes : List ℕ) (passed : Passed) (copy : List ℕ) (len : ℕ)
-    → passed.next ≡ Some len → copy ≡ slice_range bytes passed.bytes (passed.bytes + len)
-    → (ahead : IsAhead search bytes passed) → Takes search passed copy (take (len_of passed) bytes)
-takes_copy search bytes passed copy len is copied ahead =
-    subst (λ l. Takes search passed l (take (len_of passed) bytes)) (sym (copied ∙ same)) ahead.1
-  where
-    same : slice_range bytes passed.bytes (passed.bytes + len) ≡ ahead.0
-    same =
-        let taken = ahead.1 in
-        let word = subst (λ o. IfSome o (λ n. (n ≡ length ahead.0) × HasNoFeed ahead.0 × HasWord search ahead.0)) is
-        taken.next in
-        line_behind bytes (flat_map with_feed taken.lines) ahead.0 passed.bytes len taken.bytes word.0
-        (subst (λ o. take (len_with passed.bytes o) bytes ≡ flat_map with_feed taken.lines ++ next_of o ahead.0) is
-        taken.text_is)
-
-module _ (search : SearchValue) where
-  abbrev pub OccursIn : List ℕ → ℕ → ℕ → Type 0
-  OccursIn text i at = Occurs search.query.patterns search.ignore_case text (whole_of text) i at
-
-  -- what occurs in a part of a text occurs in the text
-  occurs_in_part : (front part back : List ℕ) (i at : ℕ) → OccursIn part i at
-      → OccursIn (front ++ (part ++ back)) i (length front + at)
-  occurs_in_part front part back i at occurs =
-      let n = length (pattern_at search.query.patterns i) in
-      let fits : at + n ≤ length part = occurs.before_end in
-      let long = length-append front (part ++ back) ∙ ap (λ k. length front + k) (length-append part back) in
-      record {
-        is_pattern = occurs.is_pattern;
-        after_start = omega arith;
-        before_end = omega (arith, long, fits);
-        same = ap (case_folded search.ignore_case) (same_in_part front part back at n fits) ∙ occurs.same;
-      }
-
-  -- and the other way round, if it lies in the part
-  pub occurs_of_part : (front part back : List ℕ) (i at : ℕ)
-      → OccursIn (front ++ (part ++ back)) i (length front + at)
-      → at + length (pattern_at search.query.patterns i) ≤ length part → OccursIn part i at
-  occurs_of_part front part back i at occurs fits = record {
-    is_pattern = occurs.is_pattern;
-    after_start = omega arith;
-    before_end = fits;
-    same = ap (case_folded search.ignore_case)
-        (sym (same_in_part front part back at (length (pattern_at search.query.patterns i)) fits)) ∙ occurs.same;
+  -- where nothing is passed over nothing is taken
+  pub takes_nothing : (search : SearchValue) (line : List ℕ)
+      → Takes line_end search (record { lines = 0; bytes = 0; next = None }) line []
+  takes_nothing search line = record {
+    lines = [];
+    are = record { whole = All-nil (HasNoEnd line_end); none = All-nil (HasNoWord search) };
+    count = refl;
+    bytes = refl;
+    next = tt;
+    text_is = refl;
   }
 
-  -- where nothing begins in a text before a place, nothing occurs in lines that end before it
-  pub none_in_lines : (front : List ℕ) (lines : List (List ℕ)) (back : List ℕ) (place : ℕ)
-      → ((i at : ℕ) → at < place → ¬ OccursIn (front ++ (flat_map with_feed lines ++ back)) i at)
-      → length front + length (flat_map with_feed lines) ≤ place
-      → All (HasNoWord search) lines
-  none_in_lines front [] back place none inside =
-      All-nil (HasNoWord search)
-  none_in_lines front (line ∷ more) back place none inside =
-      let rest = flat_map with_feed more ++ back in
-      let first : (with_feed line ++ flat_map with_feed more) ++ back ≡ line ++ (10 ∷ rest) =
-      append_assoc (with_feed line) (flat_map with_feed more) back ∙ append_assoc line (10 ∷ []) rest in
-      let behind : front ++ ((with_feed line ++ flat_map with_feed more) ++ back) ≡ (front ++ with_feed line) ++ rest =
-      ap (λ l. front ++ l) (append_assoc (with_feed line) (flat_map with_feed more) back)
-      ∙ sym (append_assoc front (with_feed line) rest) in
-      let size = length-append (with_feed line) (flat_map with_feed more) in
-      let line_size = length-append line (10 ∷ []) in
-      All-cons (HasNoWord search) line more
-      (λ i at occurs. none i (length front + at) (omega (arith, inside, size, line_size, occurs.before_end))
-      (subst (λ l. OccursIn (front ++ l) i (length front + at)) (sym first)
-      (occurs_in_part front line (10 ∷ rest) i at occurs)))
-      (none_in_lines (front ++ with_feed line) more back place
-      (λ i at below. subst (λ l. ¬ OccursIn l i at) behind (none i at below))
-      (omega (arith, inside, size, length-append front (with_feed line))))
+  -- the line behind the front of a text
+  pub line_behind : (bytes front line : List ℕ) (start len : ℕ) → start ≡ length front → len ≡ length line
+      → take (start + len + 1) bytes ≡ front ++ with_end line_end line → slice_range bytes start (start + len) ≡ line
+  line_behind bytes front line start len start_is len_is is =
+      let n : start + len - start ≡ len = omega arith in
+      let all : start + len + 1 ≡ start + (len + 1) = omega arith in
+      let rest : take (len + 1) (drop start bytes) ≡ with_end line_end line =
+      sym (drop-take start (len + 1) bytes) ∙ ap (λ k. drop start (take k bytes)) (sym all) ∙ ap (drop start) is
+      ∙ ap (λ k. drop k (front ++ with_end line_end line)) start_is ∙ drop-append_seam front (with_end line_end line) in
+      ap (λ k. take k (drop start bytes)) n ∙ sym (take-take len (len + 1) (drop start bytes) (omega arith))
+      ∙ ap (take len) rest ∙ ap (λ k. take k (with_end line_end line)) len_is ∙ take-append_seam line (line_end ∷ [])
 
-  module _ (bytes : List ℕ) (end place lines : ℕ) (before : end ≤ place) (inside : place ≤ length bytes)
-      (feed : (end ≡ 0) ⊎ ((0 < end) × (get_or bytes (end - 1) 0 ≡ 10)))
-      (none : (i at : ℕ) → at < place → ¬ OccursIn bytes i at) (count : lines ≡ count_by is_feed (take end bytes))
+  -- so what is taken with a line is taken with a copy of it
+  pub takes_copy : (search : SearchValue) (bytes : List ℕ) (passed : Passed) (copy : List ℕ) (len : ℕ)
+      → passed.next ≡ Some len → copy ≡ slice_range bytes passed.bytes (passed.bytes + len)
+      → (ahead : IsAhead line_end search bytes passed) → Takes line_end search passed copy (take (len_of passed) bytes)
+  takes_copy search bytes passed copy len is copied ahead =
+      subst (λ l. Takes line_end search passed l (take (len_of passed) bytes)) (sym (copied ∙ same)) ahead.1
     where
-      size : length (take end bytes) ≡ end
-      size = length-take-le end bytes (omega (arith, before, inside))
+      same : slice_range bytes passed.bytes (passed.bytes + len) ≡ ahead.0
+      same =
+          let taken = ahead.1 in
+          let word = subst (λ o. IfSome o
+          (λ n. (n ≡ length ahead.0) × HasNoEnd line_end ahead.0 × HasWord search ahead.0)) is
+          taken.next in
+          line_behind bytes (flat_map (with_end line_end) taken.lines) ahead.0 passed.bytes len taken.bytes word.0
+          (subst (λ o. take (len_with passed.bytes o) bytes
+          ≡ flat_map (with_end line_end) taken.lines ++ next_of line_end o ahead.0) is
+          taken.text_is)
 
-      -- the lines up to a line feed before a place, where nothing begins before that place
-      made : (all : List (List ℕ)) × All HasNoFeed all × (take end bytes ≡ flat_map with_feed all)
-      made = made_of_lines (take end bytes) (elim feed [
-        | inl zero ↦ inl (omega (arith, size, zero))
-        | inr last ↦ inr (
-          omega (arith, size, last.0),
-          ap (λ n. get_or (take end bytes) (n - 1) 0) size
-              ∙ get_or-take end bytes (end - 1) 0 (omega (arith, last.0)) ∙ last.1,
-        )
-      ])
+  module _ (search : SearchValue) where
+    abbrev pub OccursIn : List ℕ → ℕ → ℕ → Type 0
+    OccursIn text i at = Occurs search.query.patterns search.ignore_case text (whole_of text) i at
 
-      are : ArePassed search made.0
-      are =
-          let same : flat_map with_feed made.0 ++ drop end bytes ≡ bytes =
-          ap (λ l. l ++ drop end bytes) (sym made.2) ∙ take-append-drop end bytes in
-          record {
-            whole = made.1;
-            none = none_in_lines [] made.0 (drop end bytes) place
-                (λ i at below. subst (λ l. ¬ OccursIn l i at) (sym same) (none i at below))
-                (omega (arith, size, before, ap (λ (l : List ℕ). length l) made.2));
-          }
+    -- what occurs in a part of a text occurs in the text
+    occurs_in_part : (front part back : List ℕ) (i at : ℕ) → OccursIn part i at
+        → OccursIn (front ++ (part ++ back)) i (length front + at)
+    occurs_in_part front part back i at occurs =
+        let n = length (pattern_at search.query.patterns i) in
+        let fits : at + n ≤ length part = occurs.before_end in
+        let long = length-append front (part ++ back) ∙ ap (λ k. length front + k) (length-append part back) in
+        record {
+          is_pattern = occurs.is_pattern;
+          after_start = omega arith;
+          before_end = omega (arith, long, fits);
+          same = ap (case_folded search.ignore_case) (same_in_part front part back at n fits) ∙ occurs.same;
+        }
 
-      taken : (line : List ℕ) (next : Option ℕ)
-          → IfSome next (λ len. (len ≡ length line) × HasNoFeed line × HasWord search line) → (text : List ℕ)
-          → text ≡ take end bytes ++ next_of next line
-          → Takes search (record { lines = lines; bytes = end; next = next }) line text
-      taken line next word text is = record {
-        lines = made.0;
-        are = are;
-        count = count ∙ ap (count_by is_feed) made.2 ∙ feeds_of_lines made.0 made.1;
-        bytes = sym size ∙ ap (λ (l : List ℕ). length l) made.2;
-        next = word;
-        text_is = is ∙ ap (λ l. l ++ next_of next line) made.2;
-      }
+    -- and the other way round, if it lies in the part
+    pub occurs_of_part : (front part back : List ℕ) (i at : ℕ)
+        → OccursIn (front ++ (part ++ back)) i (length front + at)
+        → at + length (pattern_at search.query.patterns i) ≤ length part → OccursIn part i at
+    occurs_of_part front part back i at occurs fits = record {
+      is_pattern = occurs.is_pattern;
+      after_start = omega arith;
+      before_end = fits;
+      same = ap (case_folded search.ignore_case)
+          (sym (same_in_part front part back at (length (pattern_at search.query.patterns i)) fits)) ∙ occurs.same;
+    }
 
-      -- are taken alone
-      pub takes_lines : IsAhead search bytes (record { lines = lines; bytes = end; next = None })
-      takes_lines = ([], taken [] None tt _ (sym (append-nil (take end bytes))), omega (arith, before, inside))
+    -- where nothing begins in a text before a place, nothing occurs in lines that end before it
+    pub none_in_lines : (front : List ℕ) (lines : List (List ℕ)) (back : List ℕ) (place : ℕ)
+        → ((i at : ℕ) → at < place → ¬ OccursIn (front ++ (flat_map (with_end line_end) lines ++ back)) i at)
+        → length front + length (flat_map (with_end line_end) lines) ≤ place
+        → All (HasNoWord search) lines
+    none_in_lines front [] back place none inside =
+        All-nil (HasNoWord search)
+    none_in_lines front (line ∷ more) back place none inside =
+        let rest = flat_map (with_end line_end) more ++ back in
+        let first : (with_end line_end line ++ flat_map (with_end line_end) more) ++ back ≡ line ++ (line_end ∷ rest) =
+        append_assoc (with_end line_end line) (flat_map (with_end line_end) more) back
+        ∙ append_assoc line (line_end ∷ []) rest in
+        let behind : front ++ ((with_end line_end line ++ flat_map (with_end line_end) more) ++ back)
+        ≡ (front ++ with_end line_end line) ++ rest =
+        ap (λ l. front ++ l) (append_assoc (with_end line_end line) (flat_map (with_end line_end) more) back)
+        ∙ sym (append_assoc front (with_end line_end line) rest) in
+        let size = length-append (with_end line_end line) (flat_map (with_end line_end) more) in
+        let line_size = length-append line (line_end ∷ []) in
+        All-cons (HasNoWord search) line more
+        (λ i at occurs. none i (length front + at) (omega (arith, inside, size, line_size, occurs.before_end))
+        (subst (λ l. OccursIn (front ++ l) i (length front + at)) (sym first)
+        (occurs_in_part front line (line_end ∷ rest) i at occurs)))
+        (none_in_lines (front ++ with_end line_end line) more back place
+        (λ i at below. subst (λ l. ¬ OccursIn l i at) behind (none i at below))
+        (omega (arith, inside, size, length-append front (with_end line_end line))))
 
-      -- and with the line of the match there, if it is whole
-      pub takes_line : (found : MatchValue) (len : ℕ) → place ≡ found.start → OccursIn bytes found.pattern found.start
-          → found.end ≡ found.start + length (pattern_at search.query.patterns found.pattern)
-          → LiesInLine bytes end found len
-          → IsAhead search bytes (record { lines = lines; bytes = end; next = Some len })
-      takes_line found len is occurs whole lies = (
-        line,
-        taken line (Some len) (sym long, no_feed, (found.pattern, found.start - end, word)) _ text_is,
-        omega (arith, lies.fed),
-      )
-        where
-          rest : List ℕ
-          rest = drop end bytes
+    module _ (bytes : List ℕ) (end place lines : ℕ) (before : end ≤ place) (inside : place ≤ length bytes)
+        (feed : (end ≡ 0) ⊎ ((0 < end) × (get_or bytes (end - 1) 0 ≡ line_end)))
+        (none : (i at : ℕ) → at < place → ¬ OccursIn bytes i at) (count : lines ≡ count_by is_end (take end bytes))
+      where
+        size : length (take end bytes) ≡ end
+        size = length-take-le end bytes (omega (arith, before, inside))
 
-          line : List ℕ
-          line = take len rest
-
-          long : length line ≡ len
-          long = length-take-le len rest (omega (arith, lies.fed, length-drop end bytes))
-
-          text_is : take (end + len + 1) bytes ≡ take end bytes ++ with_feed line
-          text_is =
-              take_more bytes (end + len) 0 lies.fed ∙ ap (λ b. take (end + len) bytes ++ b ∷ []) lies.feed
-              ∙ ap (λ l. l ++ 10 ∷ []) (take-add end len bytes) ∙ append_assoc (take end bytes) line (10 ∷ [])
-
-          no_feed : HasNoFeed line
-          no_feed k d below =
-              let inside : k < len = omega (arith, below, long) in
-              subst (λ b. b ≢ 10)
-              (sym (get_or-take len rest k d inside ∙ get_or-drop end bytes k d
-              ∙ get_or_default bytes (end + k) d 0 (omega (arith, inside, lies.fed))))
-              (lies.whole (end + k) (omega arith) (omega (arith, inside)))
-
-          same : take end bytes ++ (line ++ drop len rest) ≡ bytes
-          same = ap (λ l. take end bytes ++ l) (take-append-drop len rest) ∙ take-append-drop end bytes
-
-          word : OccursIn line found.pattern (found.start - end)
-          word =
-              let at : found.start ≡ length (take end bytes) + (found.start - end) = omega (arith, size, before, is) in
-              occurs_of_part (take end bytes) line (drop len rest) found.pattern (found.start - end)
-              (subst (λ l. OccursIn l found.pattern (length (take end bytes) + (found.start - end))) (sym same)
-              (subst (λ n. OccursIn bytes found.pattern n) at occurs))
-              (omega (arith, lies.inside, whole, long, before, is))
-
-  module _ (options : Options) (name : List ℕ) (kept : options.others ≡ false) where
-    none_asked : (line : List ℕ) → HasNoWord search line → counts search options line ≡ false
-    none_asked line none =
-        cond-false options.others _ _ kept
-        ∙ (elim (cases_Bool (one_asked search options line)) [
-          | inl told ↦ let is = asked_if search options line told in absurd (none is.0 is.1 is.2.occurs)
-          | inr other ↦ other
+        -- the lines up to an end of a line before an offset, if no match begins before that offset
+        made : (all : List (List ℕ)) × All (HasNoEnd line_end) all × (take end bytes ≡ flat_map (with_end line_end) all)
+        made = made_of_lines (take end bytes) (elim feed [
+          | inl zero ↦ inl (omega (arith, size, zero))
+          | inr last ↦ inr (
+            omega (arith, size, last.0),
+            ap (λ n. get_or (take end bytes) (n - 1) 0) size
+                ∙ get_or-take end bytes (end - 1) 0 (omega (arith, last.0)) ∙ last.1,
+          )
         ])
 
-    -- lines in which no word occurs do not count
-    pub none_counts : (lines : List (List ℕ))
-        → All (HasNoWord search) lines
-        → count_by (counts search options) lines ≡ 0
-    none_counts [] none = refl
-    none_counts (line ∷ more) none =
-        let word = none_asked line (All-head (HasNoWord search) line more none) in
-        let first = cond-false {A = ℕ} (counts search options line) 1 0 word in
-        let rest = none_counts more (All-tail (HasNoWord search) line more none) in
-        omega (arith, first, rest, sum_by-cons (λ l. cond (counts search options l) 1 0) line more)
+        are : ArePassed line_end search made.0
+        are =
+            let same : flat_map (with_end line_end) made.0 ++ drop end bytes ≡ bytes =
+            ap (λ l. l ++ drop end bytes) (sym made.2) ∙ take-append-drop end bytes in
+            record {
+              whole = made.1;
+              none = none_in_lines [] made.0 (drop end bytes) place
+                  (λ i at below. subst (λ l. ¬ OccursIn l i at) (sym same) (none i at below))
+                  (omega (arith, size, before, ap (λ (l : List ℕ). length l) made.2));
+            }
 
-    -- and nothing is printed of them
-    pub none_printed : (silent : Bool) (number offset : ℕ) (lines : List (List ℕ))
-        → All (HasNoWord search) lines
-        → PrintsUnlessSilent silent search options name number offset lines []
-    none_printed true number offset lines none = refl
-    none_printed false number offset [] none = refl
-    none_printed false number offset (line ∷ more) none =
-        let rest = All-tail (HasNoWord search) line more none in
-        ([], [], first, none_printed false (number + 1) (offset + length line + 1) more rest, refl)
-      where
-        first : PrintsLine (counts search options line) search options name number offset line []
-        first = subst (λ b. PrintsLine b search options name number offset line [])
-            (sym (none_asked line (All-head (HasNoWord search) line more none))) refl
+        taken : (line : List ℕ) (next : Option ℕ)
+            → IfSome next (λ len. (len ≡ length line) × HasNoEnd line_end line × HasWord search line) → (text : List ℕ)
+            → text ≡ take end bytes ++ next_of line_end next line
+            → Takes line_end search (record { lines = lines; bytes = end; next = next }) line text
+        taken line next word text is = record {
+          lines = made.0;
+          are = are;
+          count = count ∙ ap (count_by is_end) made.2 ∙ feeds_of_lines made.0 made.1;
+          bytes = sym size ∙ ap (λ (l : List ℕ). length l) made.2;
+          next = word;
+          text_is = is ∙ ap (λ l. l ++ next_of line_end next line) made.2;
+        }
+
+        -- are taken alone
+        pub takes_lines : IsAhead line_end search bytes (record { lines = lines; bytes = end; next = None })
+        takes_lines = ([], taken [] None tt _ (sym (append-nil (take end bytes))), omega (arith, before, inside))
+
+        -- and with the line of the match there, if it is whole
+        pub takes_line : (found : MatchValue) (len : ℕ) → place ≡ found.start → OccursIn bytes found.pattern found.start
+            → found.end ≡ found.start + length (pattern_at search.query.patterns found.pattern)
+            → LiesInLine line_end bytes end found len
+            → IsAhead line_end search bytes (record { lines = lines; bytes = end; next = Some len })
+        takes_line found len is occurs whole lies = (
+          line,
+          taken line (Some len) (sym long, no_feed, (found.pattern, found.start - end, word)) _ text_is,
+          omega (arith, lies.fed),
+        )
+          where
+            rest : List ℕ
+            rest = drop end bytes
+
+            line : List ℕ
+            line = take len rest
+
+            long : length line ≡ len
+            long = length-take-le len rest (omega (arith, lies.fed, length-drop end bytes))
+
+            text_is : take (end + len + 1) bytes ≡ take end bytes ++ with_end line_end line
+            text_is =
+                take_more bytes (end + len) 0 lies.fed ∙ ap (λ b. take (end + len) bytes ++ b ∷ []) lies.feed
+                ∙ ap (λ l. l ++ line_end ∷ []) (take-add end len bytes)
+                ∙ append_assoc (take end bytes) line (line_end ∷ [])
+
+            no_feed : HasNoEnd line_end line
+            no_feed k d below =
+                let inside : k < len = omega (arith, below, long) in
+                subst (λ b. b ≢ line_end)
+                (sym (get_or-take len rest k d inside ∙ get_or-drop end bytes k d
+                ∙ get_or_default bytes (end + k) d 0 (omega (arith, inside, lies.fed))))
+                (lies.whole (end + k) (omega arith) (omega (arith, inside)))
+
+            same : take end bytes ++ (line ++ drop len rest) ≡ bytes
+            same = ap (λ l. take end bytes ++ l) (take-append-drop len rest) ∙ take-append-drop end bytes
+
+            word : OccursIn line found.pattern (found.start - end)
+            word =
+                let at : found.start ≡ length (take end bytes) + (found.start - end) =
+                omega (arith, size, before, is) in
+                occurs_of_part (take end bytes) line (drop len rest) found.pattern (found.start - end)
+                (subst (λ l. OccursIn l found.pattern (length (take end bytes) + (found.start - end))) (sym same)
+                (subst (λ n. OccursIn bytes found.pattern n) at occurs))
+                (omega (arith, lies.inside, whole, long, before, is))
+
+    module _ (options : Options) (name : List ℕ) (kept : options.others ≡ false) where
+      none_asked : (line : List ℕ) → HasNoWord search line → counts search options line ≡ false
+      none_asked line none =
+          cond-false options.others _ _ kept
+          ∙ (elim (cases_Bool (one_asked search options line)) [
+            | inl told ↦ let is = asked_if search options line told in absurd (none is.0 is.1 is.2.occurs)
+            | inr other ↦ other
+          ])
+
+      -- lines in which no word occurs do not count
+      pub none_counts : (lines : List (List ℕ))
+          → All (HasNoWord search) lines
+          → count_by (counts search options) lines ≡ 0
+      none_counts [] none = refl
+      none_counts (line ∷ more) none =
+          let word = none_asked line (All-head (HasNoWord search) line more none) in
+          let first = cond-false {A = ℕ} (counts search options line) 1 0 word in
+          let rest = none_counts more (All-tail (HasNoWord search) line more none) in
+          omega (arith, first, rest, sum_by-cons (λ l. cond (counts search options l) 1 0) line more)
+
+      -- and nothing is printed of them
+      pub none_printed : (silent : Bool) (number offset : ℕ) (lines : List (List ℕ))
+          → All (HasNoWord search) lines
+          → PrintsUnlessSilent silent search options name number offset lines []
+      none_printed true number offset lines none = refl
+      none_printed false number offset [] none = refl
+      none_printed false number offset (line ∷ more) none =
+          let rest = All-tail (HasNoWord search) line more none in
+          ([], [], first, none_printed false (number + 1) (offset + length line + 1) more rest, refl)
+        where
+          first : PrintsLine (counts search options line) search options name number offset line []
+          first = subst (λ b. PrintsLine b search options name number offset line [])
+              (sym (none_asked line (All-head (HasNoWord search) line more none))) refl
 
 -- lines that do not count are not enough where those before them are not
 pub stops_behind : (limit : Option ℕ) (test : List ℕ → Bool) (seen more : List (List ℕ)) → count_by test more ≡ 0
@@ -329,10 +341,10 @@ stops_behind limit test seen more none before not_yet n below =
 -- a scan has read these lines and printed this of them: so many count, so many they are, and so many bytes they have
 pub record SoFar (search : SearchValue) (options : Options) (name : List ℕ) (old new : Option (List ℕ))
     (written now : Option (List ℕ)) (seen : List (List ℕ)) (out : List ℕ) (count lines offset : ℕ) : Type 0 where
-  pub whole : All HasNoFeed seen
-  pub read : Consumes old new (flat_map with_feed seen)
+  pub whole : All (HasNoEnd options.line_end) seen
+  pub read : Consumes old new (flat_map (with_end options.line_end) seen)
   pub lines_are : lines ≡ length seen
-  pub offset_is : offset ≡ length (flat_map with_feed seen)
+  pub offset_is : offset ≡ length (flat_map (with_end options.line_end) seen)
   pub stops : StopsAtEnough (limit_of options) (counts search options) seen
   pub counted : count ≡ count_by (counts search options) seen
   pub written_are : Appends written now out
@@ -360,7 +372,7 @@ pub few_so_far : {search : SearchValue} {options : Options} {name : List ℕ} {o
     → SoFar search options name old new written now seen out count lines offset → (count ≤ lines) × (lines ≤ offset)
 few_so_far {search} {options} {seen = seen} is = (
   omega (arith, is.counted, is.lines_are, count_by-le-length (counts search options) seen),
-  omega (arith, is.lines_are, is.offset_is, length-feeds_most seen),
+  omega (arith, is.lines_are, is.offset_is, length-feeds_most options.line_end seen),
 )
 
 module _ {search : SearchValue} {options : Options} {name : List ℕ} {old new : Option (List ℕ)}
@@ -372,20 +384,20 @@ module _ {search : SearchValue} {options : Options} {name : List ℕ} {old new :
     not_enough = ap (λ n. is_enough (limit_of options) n) (sym so_far.counted) ∙ not_yet
 
     -- lines were passed over
-    passed_on : (next : Option (List ℕ)) (passed : List (List ℕ)) → ArePassed search passed
-        → options.others ≡ false ⊎ (passed ≡ []) → Consumes new next (flat_map with_feed passed)
+    passed_on : (next : Option (List ℕ)) (passed : List (List ℕ)) → ArePassed options.line_end search passed
+        → options.others ≡ false ⊎ (passed ≡ []) → Consumes new next (flat_map (with_end options.line_end) passed)
         → SoFar search options name old next written now (seen ++ passed) out count (lines + length passed)
-        (offset + length (flat_map with_feed passed))
+        (offset + length (flat_map (with_end options.line_end) passed))
     passed_on next passed are why read = record {
-      whole = All-append HasNoFeed seen passed so_far.whole are.whole;
-      read = subst (Consumes old next) (sym (flat_map-append with_feed seen passed))
+      whole = All-append (HasNoEnd options.line_end) seen passed so_far.whole are.whole;
+      read = subst (Consumes old next) (sym (flat_map-append (with_end options.line_end) seen passed))
           (Consumes-trans old new next _ _ so_far.read read);
       lines_are = omega (arith, so_far.lines_are, length-append seen passed);
       offset_is = omega (
         arith,
         so_far.offset_is,
-        length-append (flat_map with_feed seen) (flat_map with_feed passed),
-        ap (λ (l : List ℕ). length l) (flat_map-append with_feed seen passed),
+        length-append (flat_map (with_end options.line_end) seen) (flat_map (with_end options.line_end) passed),
+        ap (λ (l : List ℕ). length l) (flat_map-append (with_end options.line_end) seen passed),
       );
       stops = stops_behind (limit_of options) (counts search options) seen passed none so_far.stops not_enough;
       counted = omega (
@@ -397,24 +409,26 @@ module _ {search : SearchValue} {options : Options} {name : List ℕ} {old new :
       written_are = so_far.written_are;
       printed = subst (PrintsUnlessSilent (is_silent options) search options name 1 0 (seen ++ passed)) (append-nil out)
           (prints_more search options name (is_silent options) 1 0 (length seen + 1)
-          (length (flat_map with_feed seen) + 0) seen passed out [] refl refl so_far.printed (printed_nothing why));
+          (length (flat_map (with_end options.line_end) seen) + 0) seen passed out [] refl refl so_far.printed
+          (printed_nothing why));
     }
       where
         none : count_by (counts search options) passed ≡ 0
         none = elim why [
-          | inl kept ↦ none_counts search options name kept passed are.none
+          | inl kept ↦ none_counts options.line_end search options name kept passed are.none
           | inr empty ↦ ap (count_by (counts search options)) empty
         ]
 
         printed_nothing : options.others ≡ false ⊎ (passed ≡ [])
             → PrintsUnlessSilent (is_silent options) search options name (length seen + 1)
-            (length (flat_map with_feed seen) + 0) passed []
-        printed_nothing (inl kept) = none_printed search options name kept (is_silent options) _ _ passed are.none
+            (length (flat_map (with_end options.line_end) seen) + 0) passed []
+        printed_nothing (inl kept) = none_printed options.line_end search options name kept
+            (is_silent options) _ _ passed are.none
         printed_nothing (inr empty) =
             subst (λ l. PrintsUnlessSilent (is_silent options) search options name (length seen + 1)
-            (length (flat_map with_feed seen) + 0) l []) (sym empty)
+            (length (flat_map (with_end options.line_end) seen) + 0) l []) (sym empty)
             (prints_none search options name (is_silent options) (length seen + 1)
-            (length (flat_map with_feed seen) + 0))
+            (length (flat_map (with_end options.line_end) seen) + 0))
 
     -- the same of what was read in one step
     pub passed_here : {next : Next} {line : List ℕ} {there : Option (List ℕ)}
@@ -455,16 +469,17 @@ module _ {search : SearchValue} {options : Options} {name : List ℕ} {old new :
 
     -- one line more was read
     pub read_on : {next there : Option (List ℕ)} (line part : List ℕ) (fed : Bool) (number start behind taken : ℕ)
-        → fed ≡ true → number ≡ lines + 1 → start ≡ offset → behind ≡ start + length line + 1 → HasNoFeed line
-        → Consumes new next (cond fed (with_feed line) line) → Appends now there part
+        → fed ≡ true → number ≡ lines + 1 → start ≡ offset → behind ≡ start + length line + 1
+        → HasNoEnd options.line_end line
+        → Consumes new next (cond fed (with_end options.line_end line) line) → Appends now there part
         → PrintsUnlessSilent (is_silent options) search options name number start (lines_read fed line) part
         → taken ≡ count_by (counts search options) (lines_read fed line)
         → SoFar search options name old next written there (seen ++ line ∷ []) (out ++ part) (count + taken) number
         behind
     read_on {next} {there} line part true number start behind taken is number_is start_is behind_is whole read append
         printed counted = record {
-          whole = All-push HasNoFeed seen line so_far.whole whole;
-          read = read_more old new next seen line true is so_far.read read;
+          whole = All-push (HasNoEnd options.line_end) seen line so_far.whole whole;
+          read = read_more options.line_end old new next seen line true is so_far.read read;
           lines_are = omega (arith, number_is, so_far.lines_are, length_push seen line);
           offset_is = omega (arith, start_is, behind_is, so_far.offset_is, longer);
           stops = stops_on line true;
@@ -473,11 +488,13 @@ module _ {search : SearchValue} {options : Options} {name : List ℕ} {old new :
           printed = printed_on line part true number start number_is start_is printed;
         }
       where
-        longer : length (flat_map with_feed (seen ++ line ∷ [])) ≡ length (flat_map with_feed seen) + (length line + 1)
+        longer : length (flat_map (with_end options.line_end) (seen ++ line ∷ []))
+            ≡ length (flat_map (with_end options.line_end) seen) + (length line + 1)
         longer =
-            ap (λ (l : List _). length l) (sym (flat_map_more with_feed [] seen line))
-            ∙ length-append (flat_map with_feed seen) (with_feed line)
-            ∙ ap (λ n. length (flat_map with_feed seen) + n) (length-append line (10 ∷ []))
+            ap (λ (l : List _). length l) (sym (flat_map_more (with_end options.line_end) [] seen line))
+            ∙ length-append (flat_map (with_end options.line_end) seen) (with_end options.line_end line)
+            ∙ ap (λ n. length (flat_map (with_end options.line_end) seen) + n)
+            (length-append line (options.line_end ∷ []))
     read_on line part false number start behind taken is number_is start_is behind_is whole read append printed
         counted =
         absurd (cc)
@@ -487,9 +504,10 @@ abbrev pub Answers : SearchValue → Options → List ℕ → Option (List ℕ) 
     → Option (List ℕ) → Scanned → Type 0
 Answers search options name old new written now scanned =
     (text out : List ℕ) × Reads scanned.failure (are_enough options scanned) old new text
-    × StopsAtEnough (limit_of options) (counts search options) (lines_of text) × Appends written now out
-    × PrintsUnlessSilent (is_silent options) search options name 1 0 (lines_of text) out
-    × (scanned.count ≡ count_by (counts search options) (lines_of text))
+    × StopsAtEnough (limit_of options) (counts search options) (lines_of options.line_end text)
+    × Appends written now out
+    × PrintsUnlessSilent (is_silent options) search options name 1 0 (lines_of options.line_end text) out
+    × (scanned.count ≡ count_by (counts search options) (lines_of options.line_end text))
 
 module _ {search : SearchValue} {options : Options} {name : List ℕ} {old new : Option (List ℕ)}
     {written now : Option (List ℕ)} {seen : List (List ℕ)} {out : List ℕ} {count lines offset : ℕ}
@@ -497,11 +515,11 @@ module _ {search : SearchValue} {options : Options} {name : List ℕ} {old new :
   where
     -- if that is what it has read so far
     pub scanned_so_far : (next : Option (List ℕ)) (failure : Option ErrorKind)
-        → Reads failure (is_enough (limit_of options) count) old next (flat_map with_feed seen)
+        → Reads failure (is_enough (limit_of options) count) old next (flat_map (with_end options.line_end) seen)
         → Answers search options name old next written now (record { count = count; failure = failure })
     scanned_so_far next failure reads =
-        let are = sym (lines_of-feeds seen so_far.whole) in (
-          flat_map with_feed seen,
+        let are = sym (lines_of-feeds options.line_end seen so_far.whole) in (
+          flat_map (with_end options.line_end) seen,
           out,
           reads,
           subst (StopsAtEnough (limit_of options) (counts search options)) are so_far.stops,
@@ -517,13 +535,14 @@ module _ {search : SearchValue} {options : Options} {name : List ℕ} {old new :
     failed_so_far next {failure} scanned is failed =
         subst (Answers search options name old next written now) (sym is)
         (scanned_so_far next failure (reads_front failure (is_enough (limit_of options) count) old new next
-        (flat_map with_feed seen)
+        (flat_map (with_end options.line_end) seen)
         failed so_far.read))
 
-    -- and behind the last line feed
+    -- and after the last end of a line
     pub ended_so_far : is_enough (limit_of options) count ≡ false → (next there : Option (List ℕ)) (line part : List ℕ)
         → (fed : Bool) (number start taken : ℕ) → fed ≡ false → number ≡ lines + 1
-        → start ≡ offset → HasNoFeed line → Consumes new next (cond fed (with_feed line) line)
+        → start ≡ offset → HasNoEnd options.line_end line
+        → Consumes new next (cond fed (with_end options.line_end line) line)
         → (fed ≡ false → OnSome new (IsAtEnd next)) → Appends now there part
         → PrintsUnlessSilent (is_silent options) search options name number start (lines_read fed line) part
         → taken ≡ count_by (counts search options) (lines_read fed line)
@@ -533,11 +552,12 @@ module _ {search : SearchValue} {options : Options} {name : List ℕ} {old new :
         absurd (cc)
     ended_so_far not_yet next there line part false number start taken is number_is start_is whole read ended append
         printed counted =
-        let are = sym (lines_of-split seen line so_far.whole whole) in (
-          flat_map with_feed seen ++ line,
+        let are = sym (lines_of-split options.line_end seen line so_far.whole whole) in (
+          flat_map (with_end options.line_end) seen ++ line,
           out ++ part,
-          reads_any _ old next (flat_map with_feed seen ++ line)
-              (read_all old new next (flat_map with_feed seen) line false is so_far.read read ended),
+          reads_any _ old next (flat_map (with_end options.line_end) seen ++ line)
+              (read_all options.line_end old new next
+              (flat_map (with_end options.line_end) seen) line false is so_far.read read ended),
           subst (StopsAtEnough (limit_of options) (counts search options)) are (stops_on so_far not_yet line false),
           Appends-trans written now there out part so_far.written_are append,
           subst (λ all. PrintsUnlessSilent (is_silent options) search options name 1 0 all (out ++ part)) are
@@ -554,7 +574,7 @@ between_parts (Some bytes) None front line read = absurd read
 between_parts (Some bytes) (Some left) front line read = (read ∙ append_assoc front line left, refl)
 
 module _ (search : SearchValue) (options : Options) (passed : Passed) (line text : List ℕ)
-    (takes : Takes search passed line text) (none : options.others ≡ true → passed.lines ≡ 0)
+    (takes : Takes options.line_end search passed line text) (none : options.others ≡ true → passed.lines ≡ 0)
   where
     no_lines : options.others ≡ true → takes.lines ≡ []
     no_lines others = by takes.lines (sym takes.count ∙ none others)
@@ -569,12 +589,13 @@ module _ (search : SearchValue) (options : Options) (passed : Passed) (line text
     takes_both old new some read = by passed.next some takes.next takes.text_is
       where
         by : (next : Option ℕ) → is_some next ≡ true
-            → IfSome next (λ len. (len ≡ length line) × HasNoFeed line × HasWord search line)
-            → text ≡ flat_map with_feed takes.lines ++ next_of next line
+            → IfSome next (λ len. (len ≡ length line) × HasNoEnd options.line_end line × HasWord search line)
+            → text ≡ flat_map (with_end options.line_end) takes.lines ++ next_of options.line_end next line
             → TakesNext search options (record { passed = passed; fed = true }) line old new
         by None some word is = absurd (cc)
         by (Some len) some word is =
-            let parts = between_parts old new (flat_map with_feed takes.lines) (with_feed line)
+            let parts = between_parts old new (flat_map (with_end options.line_end) takes.lines)
+            (with_end options.line_end line)
             (subst (Consumes old new) is read) in
             record {
               lines = takes.lines;
@@ -584,7 +605,7 @@ module _ (search : SearchValue) (options : Options) (passed : Passed) (line text
               bytes = takes.bytes;
               known = λ is. word.2;
               whole = word.1;
-              between = prepend_known (with_feed line) new;
+              between = prepend_known (with_end options.line_end line) new;
               passes = parts.0;
               reads = parts.1;
               ended = λ unfed. absurd (cc);
@@ -592,7 +613,8 @@ module _ (search : SearchValue) (options : Options) (passed : Passed) (line text
 
     -- or behind them
     pub takes_apart : (fed : Bool) (old after new : Option (List ℕ)) (last : List ℕ) → is_some passed.next ≡ false
-        → Consumes old after text → HasNoFeed last → Consumes after new (cond fed (with_feed last) last)
+        → Consumes old after text → HasNoEnd options.line_end last
+        → Consumes after new (cond fed (with_end options.line_end last) last)
         → (fed ≡ false → OnSome after (IsAtEnd new))
         → TakesNext search options (record { passed = passed; fed = fed }) last old new
     takes_apart fed old after new last none_there read whole reads ended = record {
@@ -609,7 +631,9 @@ module _ (search : SearchValue) (options : Options) (passed : Passed) (line text
       ended = ended;
     }
       where
-        by : (next : Option ℕ) → is_some next ≡ false → text ≡ flat_map with_feed takes.lines ++ next_of next line
-            → Consumes old after (flat_map with_feed takes.lines)
-        by None none is = subst (Consumes old after) (is ∙ append-nil (flat_map with_feed takes.lines)) read
+        by : (next : Option ℕ) → is_some next ≡ false
+            → text ≡ flat_map (with_end options.line_end) takes.lines ++ next_of options.line_end next line
+            → Consumes old after (flat_map (with_end options.line_end) takes.lines)
+        by None none is = subst (Consumes old after)
+            (is ∙ append-nil (flat_map (with_end options.line_end) takes.lines)) read
         by (Some len) none is = absurd (cc)

@@ -10,7 +10,7 @@ use Rattle.std.specs.Option.{is_some}
 use Rattle.literal_base.specs.MatchValue.{MatchValue}
 use Rattle.literal_search.specs.SearchValue.{SearchValue}
 use Rattle.litscan.specs.Asked.{AreMatches, one_asked}
-use Rattle.litscan.specs.Lines.{with_feed}
+use Rattle.litscan.specs.Lines.{with_end}
 use Rattle.litscan.specs.Options.{is_colored, is_silent}
 use Rattle.litscan.specs.Printed.{PrintsFound, PrintsLine, PrintsLines, PrintsUnlessSilent, PrintsWhole, counts}
 use Rattle.litscan.specs.Printed.{printed_matches}
@@ -41,23 +41,25 @@ not_asked true only others loud = absurd (cc)
 not_asked false true others loud = (refl, λ asked. loud)
 not_asked false false others loud = (refl, λ asked. absurd (cc))
 
-pub length-feeds : (line : List ℕ) (more : List (List ℕ))
-    → length (with_feed line ++ flat_map with_feed more) ≡ length line + 1 + length (flat_map with_feed more)
-length-feeds line more =
-    length-append (with_feed line) (flat_map with_feed more)
-    ∙ ap (λ n. n + length (flat_map with_feed more)) (length-append line (10 ∷ []))
+pub length-feeds : (line_end : ℕ) (line : List ℕ) (more : List (List ℕ))
+    → length (with_end line_end line ++ flat_map (with_end line_end) more)
+    ≡ length line + 1 + length (flat_map (with_end line_end) more)
+length-feeds line_end line more =
+    length-append (with_end line_end line) (flat_map (with_end line_end) more)
+    ∙ ap (λ n. n + length (flat_map (with_end line_end) more)) (length-append line (line_end ∷ []))
 
-pub length-feeds_push : (seen : List (List ℕ)) (line : List ℕ)
-    → length (flat_map with_feed (seen ++ line ∷ [])) ≡ length (flat_map with_feed seen) + (length line + 1)
-length-feeds_push seen line =
-    ap (λ (l : List ℕ). length l) (sym (flat_map_more with_feed [] seen line))
-    ∙ length-append (flat_map with_feed seen) (with_feed line)
-    ∙ ap (λ n. length (flat_map with_feed seen) + n) (length-append line (10 ∷ []))
+pub length-feeds_push : (line_end : ℕ) (seen : List (List ℕ)) (line : List ℕ)
+    → length (flat_map (with_end line_end) (seen ++ line ∷ []))
+    ≡ length (flat_map (with_end line_end) seen) + (length line + 1)
+length-feeds_push line_end seen line =
+    ap (λ (l : List ℕ). length l) (sym (flat_map_more (with_end line_end) [] seen line))
+    ∙ length-append (flat_map (with_end line_end) seen) (with_end line_end line)
+    ∙ ap (λ n. length (flat_map (with_end line_end) seen) + n) (length-append line (line_end ∷ []))
 
 module _ (search : SearchValue) (options : Options) (name : List ℕ) where
   -- one list of lines behind another
   prints-append : (number offset at behind : ℕ) (seen more : List (List ℕ)) (front out : List ℕ)
-      → at ≡ length seen + number → behind ≡ length (flat_map with_feed seen) + offset
+      → at ≡ length seen + number → behind ≡ length (flat_map (with_end options.line_end) seen) + offset
       → PrintsLines search options name number offset seen front → PrintsLines search options name at behind more out
       → PrintsLines search options name number offset (seen ++ more) (front ++ out)
   prints-append number offset at behind [] more front out at_is behind_is before after =
@@ -68,7 +70,7 @@ module _ (search : SearchValue) (options : Options) (name : List ℕ) where
   prints-append number offset at behind (line ∷ seen) more front out at_is behind_is before after =
       let first = before.0 in
       let rest = before.1 in
-      let size = length-feeds line seen in (
+      let size = length-feeds options.line_end line seen in (
         first,
         rest ++ out,
         before.2,
@@ -79,7 +81,7 @@ module _ (search : SearchValue) (options : Options) (name : List ℕ) where
 
   -- one line among others
   pub prints_in_turn : (number offset at behind : ℕ) (front more : List (List ℕ)) (line out : List ℕ)
-      → at ≡ length front + number → behind ≡ length (flat_map with_feed front) + offset
+      → at ≡ length front + number → behind ≡ length (flat_map (with_end options.line_end) front) + offset
       → PrintsLines search options name number offset (front ++ line ∷ more) out
       → (before part after : List ℕ) × (out ≡ before ++ (part ++ after))
       × PrintsLines search options name number offset front before
@@ -97,7 +99,7 @@ module _ (search : SearchValue) (options : Options) (name : List ℕ) where
             (subst (λ n. PrintsLine test search options name n offset line printed.0) number_is printed.2),
       )
   prints_in_turn number offset at behind (first ∷ front) more line out at_is behind_is printed =
-      let size = length-feeds first front in
+      let size = length-feeds options.line_end first front in
       let others = prints_in_turn (number + 1) (offset + length first + 1) at behind front more line printed.1
       (omega arith) (omega (arith, behind_is, size)) printed.3 in (
         printed.0 ++ others.0,
@@ -111,7 +113,7 @@ module _ (search : SearchValue) (options : Options) (name : List ℕ) where
 
   -- the same, where nothing may be printed of lines
   pub prints_more : (silent : Bool) (number offset at behind : ℕ) (seen more : List (List ℕ)) (front out : List ℕ)
-      → at ≡ length seen + number → behind ≡ length (flat_map with_feed seen) + offset
+      → at ≡ length seen + number → behind ≡ length (flat_map (with_end options.line_end) seen) + offset
       → PrintsUnlessSilent silent search options name number offset seen front
       → PrintsUnlessSilent silent search options name at behind more out
       → PrintsUnlessSilent silent search options name number offset (seen ++ more) (front ++ out)

@@ -15,7 +15,7 @@ use Rattle.std.proofs.Math.Seq.{take-append_seam}
 use Rattle.std.proofs.lemmas.List.Elements.{All-head, All-tail}
 use Rattle.std.specs.declared.io.ErrorKind.TheVariants as kind
 use Rattle.litscan.specs.Fault.{IsReadFault, StopsRead, read_fault}
-use Rattle.litscan.specs.Lines.{HasNoFeed, last_line, with_feed}
+use Rattle.litscan.specs.Lines.{HasNoEnd, last_line, with_end}
 use Rattle.litscan.specs.Inside.Passed.{lines_read}
 use Rattle.litscan.specs.Options.{is_enough}
 use Rattle.litscan.specs.Printed.{BeginsWith, Reads, ReadsAll, ReadsTooMany, StopsAtEnough, StopsScan}
@@ -23,31 +23,34 @@ use Rattle.litscan.specs.declared.fault.Fault.TheVariants.{OutOfMemory, ReadFail
 use Rattle.litscan.specs.declared.fault.Fault.{Fault}
 use Rattle.litscan.proofs.lemmas.Lines.{Other}
 
--- what is read up to a line feed, and has none, is all
-through_all : (bytes : List ℕ) → HasNoFeed (take_through 10 bytes) → drop_through 10 bytes ≡ []
-through_all [] whole = refl
-through_all (byte ∷ more) whole =
-    elim (cases_eq byte 10) [
+-- bytes that are read up to the end of a line, and have none, are all
+through_all : (line_end : ℕ) (bytes : List ℕ) → HasNoEnd line_end (take_through line_end bytes)
+    → drop_through line_end bytes ≡ []
+through_all line_end [] whole = refl
+through_all line_end (byte ∷ more) whole =
+    elim (cases_eq byte line_end) [
       | inl feed ↦
-          let taken = cond-true (byte == 10) (byte ∷ []) (byte ∷ take_through 10 more) (eq-eqb byte 10 feed) in
-          absurd (All-head Other byte [] (subst HasNoFeed taken whole) feed)
+          let taken = cond-true (byte == line_end) (byte ∷ []) (byte ∷ take_through line_end more)
+          (eq-eqb byte line_end feed) in
+          absurd (All-head (Other line_end) byte [] (subst (HasNoEnd line_end) taken whole) feed)
       | inr other ↦
-          let test = ne_eqb byte 10 other in
-          let taken = cond-false (byte == 10) (byte ∷ []) (byte ∷ take_through 10 more) test in
-          cond-false (byte == 10) more (drop_through 10 more) test
-          ∙ through_all more (All-tail Other byte (take_through 10 more) (subst HasNoFeed taken whole))
+          let test = ne_eqb byte line_end other in
+          let taken = cond-false (byte == line_end) (byte ∷ []) (byte ∷ take_through line_end more) test in
+          cond-false (byte == line_end) more (drop_through line_end more) test
+          ∙ through_all line_end more (All-tail (Other line_end) byte (take_through line_end more)
+          (subst (HasNoEnd line_end) taken whole))
     ]
 
--- what was read into an empty buffer, and has no line feed at its end to be taken off, is all
-pub at_end : (old new : Option (List ℕ)) (had has line : List ℕ) (fed : Bool) → had ≡ []
-    → IfSome old (λ bytes. has ≡ had ++ take_through 10 bytes) → DropsThrough old new 10
-    → has ≡ cond fed (with_feed line) line → fed ≡ false → HasNoFeed line → OnSome old (IsAtEnd new)
-at_end None new had has line fed empty is drops split unfed whole = tt
-at_end (Some bytes) new had has line fed empty is drops split unfed whole =
-    let same : line ≡ take_through 10 bytes =
-    sym (cond-false fed (with_feed line) line unfed) ∙ sym split ∙ is
-    ∙ ap (λ front. front ++ take_through 10 bytes) empty in
-    let none : new ≡ Some [] = drops ∙ ap Some (through_all bytes (subst HasNoFeed same whole)) in
+-- bytes that were read into an empty buffer, and do not end a line, are all
+pub at_end : (line_end : ℕ) (old new : Option (List ℕ)) (had has line : List ℕ) (fed : Bool) → had ≡ []
+    → IfSome old (λ bytes. has ≡ had ++ take_through line_end bytes) → DropsThrough old new line_end
+    → has ≡ cond fed (with_end line_end line) line → fed ≡ false → HasNoEnd line_end line → OnSome old (IsAtEnd new)
+at_end line_end None new had has line fed empty is drops split unfed whole = tt
+at_end line_end (Some bytes) new had has line fed empty is drops split unfed whole =
+    let same : line ≡ take_through line_end bytes =
+    sym (cond-false fed (with_end line_end line) line unfed) ∙ sym split ∙ is
+    ∙ ap (λ front. front ++ take_through line_end bytes) empty in
+    let none : new ≡ Some [] = drops ∙ ap Some (through_all line_end bytes (subst (HasNoEnd line_end) same whole)) in
     subst IsAtEnd (sym none) refl
 
 -- what was read is a front of what is there
@@ -121,7 +124,7 @@ stops_later limit test seen more few before not_yet n below =
           ap enough (ap (λ k. take k (seen ++ more)) same ∙ take-append_seam seen more) ∙ not_yet
     ]
 
--- what stands behind the last line feed is one line at most
+-- the text after the last end of a line is at most one line
 length-last_line : (last : List ℕ) → length (last_line last) ≤ 1
 length-last_line [] = omega arith
 length-last_line (byte ∷ more) = omega arith
@@ -131,46 +134,48 @@ length-lines_read true line = omega arith
 length-lines_read false line = length-last_line line
 
 -- one line more
-pub read_more : (a b c : Option (List ℕ)) (seen : List (List ℕ)) (line : List ℕ) (fed : Bool) → fed ≡ true
-    → Consumes a b (flat_map with_feed seen) → Consumes b c (cond fed (with_feed line) line)
-    → Consumes a c (flat_map with_feed (seen ++ line ∷ []))
-read_more a b c seen line fed is before more =
-    let next = subst (Consumes b c) (cond-true fed (with_feed line) line is) more in
-    subst (Consumes a c) (flat_map_more with_feed [] seen line) (Consumes-trans a b c _ _ before next)
+pub read_more : (line_end : ℕ) (a b c : Option (List ℕ)) (seen : List (List ℕ)) (line : List ℕ) (fed : Bool)
+    → fed ≡ true
+    → Consumes a b (flat_map (with_end line_end) seen) → Consumes b c (cond fed (with_end line_end line) line)
+    → Consumes a c (flat_map (with_end line_end) (seen ++ line ∷ []))
+read_more line_end a b c seen line fed is before more =
+    let next = subst (Consumes b c) (cond-true fed (with_end line_end line) line is) more in
+    subst (Consumes a c) (flat_map_more (with_end line_end) [] seen line) (Consumes-trans a b c _ _ before next)
 
--- what stands behind the last line feed ends the text
-pub read_all : (a b c : Option (List ℕ)) (front last : List ℕ) (fed : Bool) → fed ≡ false → Consumes a b front
-    → Consumes b c (cond fed (with_feed last) last) → (fed ≡ false → OnSome b (IsAtEnd c))
+-- the text after the last end of a line ends the text
+pub read_all : (line_end : ℕ) (a b c : Option (List ℕ)) (front last : List ℕ) (fed : Bool) → fed ≡ false
+    → Consumes a b front
+    → Consumes b c (cond fed (with_end line_end last) last) → (fed ≡ false → OnSome b (IsAtEnd c))
     → ReadsAll a c (front ++ last)
-read_all None b c front last fed is before more end = tt
-read_all (Some xs) None c front last fed is before more end = absurd before
-read_all (Some xs) (Some ys) None front last fed is before more end = absurd more
-read_all (Some xs) (Some ys) (Some zs) front last fed is before more end =
+read_all line_end None b c front last fed is before more end = tt
+read_all line_end (Some xs) None c front last fed is before more end = absurd before
+read_all line_end (Some xs) (Some ys) None front last fed is before more end = absurd more
+read_all line_end (Some xs) (Some ys) (Some zs) front last fed is before more end =
     let rest : ys ≡ last =
-    more ∙ ap (λ bytes. bytes ++ zs) (cond-false fed (with_feed last) last is)
+    more ∙ ap (λ bytes. bytes ++ zs) (cond-false fed (with_end line_end last) last is)
     ∙ ap (λ bytes. last ++ bytes) (end is) ∙ append-nil last in
     (before ∙ ap (λ bytes. front ++ bytes) rest, ap Some (end is))
 
 -- what is read line by line is at least as long as there are lines
-pub length-feeds_most : (seen : List (List ℕ)) → length seen ≤ length (flat_map with_feed seen)
-length-feeds_most [] = omega arith
-length-feeds_most (line ∷ more) =
-    let rest = length-feeds_most more in
-    let first = length-append line (10 ∷ []) in
-    let all = length-append (with_feed line) (flat_map with_feed more) in
+pub length-feeds_most : (line_end : ℕ) (seen : List (List ℕ)) → length seen ≤ length (flat_map (with_end line_end) seen)
+length-feeds_most line_end [] = omega arith
+length-feeds_most line_end (line ∷ more) =
+    let rest = length-feeds_most line_end more in
+    let first = length-append line (line_end ∷ []) in
+    let all = length-append (with_end line_end line) (flat_map (with_end line_end) more) in
     omega (arith, rest, first, all)
 
 -- too much was read, with the line that was read last
-pub too_many_with : (a b c : Option (List ℕ)) (front line : List ℕ) (fed : Bool) → Consumes a b front
-    → Consumes b c (cond fed (with_feed line) line) → 2 ^ 64 ≤ length front + length line + 2 → ReadsTooMany a c
-too_many_with a b c front line fed before last many = (
-  front ++ cond fed (with_feed line) line,
-  Consumes-trans a b c front (cond fed (with_feed line) line) before last,
-  omega (arith, many, length-append front (cond fed (with_feed line) line), by fed),
+pub too_many_with : (line_end : ℕ) (a b c : Option (List ℕ)) (front line : List ℕ) (fed : Bool) → Consumes a b front
+    → Consumes b c (cond fed (with_end line_end line) line) → 2 ^ 64 ≤ length front + length line + 2 → ReadsTooMany a c
+too_many_with line_end a b c front line fed before last many = (
+  front ++ cond fed (with_end line_end line) line,
+  Consumes-trans a b c front (cond fed (with_end line_end line) line) before last,
+  omega (arith, many, length-append front (cond fed (with_end line_end line) line), by fed),
 )
   where
-    by : (fed : Bool) → length line ≤ length (cond fed (with_feed line) line)
-    by true = omega (arith, length-append line (10 ∷ []))
+    by : (fed : Bool) → length line ≤ length (cond fed (with_end line_end line) line)
+    by true = omega (arith, length-append line (line_end ∷ []))
     by false = omega arith
 
 -- what holds of a result that is handed on

@@ -8,22 +8,22 @@ use Rattle.litscan.specs.Lines.{with_feed}
 use Rattle.litscan.specs.declared.context.Context.{Context}
 use Rattle.litscan.specs.declared.options.Options.{Options}
 
--- the lines that are held
+-- the held lines
 abbrev pub held_of : Context → List (List ℕ)
 held_of context = map (λ line. line.items) context.held.items
 
--- for each line that it does not count
+-- for each line, that it is not selected
 abbrev pub none_count : List (List ℕ) → List Bool
 none_count lines = map (λ line. false) lines
 
--- the marks of lines by whether each counts, where so many of them are near a line before them
+-- the marks of lines by whether each is selected, if the first `due` lines are near a line before them
 abbrev pub marks_from : ℕ → ℕ → ℕ → List Bool → List Mark
 marks_from before after due [] = []
 marks_from before after due (counts ∷ more) =
     mark_by counts (nat_lt 0 due || list_any (λ one. one) (take before more))
     ∷ marks_from before after (if counts then after else due - 1) more
 
--- what is printed of the lines that are held and of more lines
+-- the output for the held lines and more lines
 abbrev pub PrintsFrom : SearchValue → Options → List ℕ → List ℕ → Context → List (List ℕ) → List Bool → List ℕ
     → Type 0
 PrintsFrom search options separator name context lines counting out =
@@ -31,7 +31,7 @@ PrintsFrom search options separator name context lines counting out =
     (held_of context ++ lines)
     (marks_from (lines_before options) (lines_after options) context.due (none_count (held_of context) ++ counting)) out
 
--- with this in front, what is printed from the new state on is what is printed from the old one on, with one line more
+-- the output from the old state on, with one more line, is `out` and then the output from the new state on
 abbrev pub GoesOn : SearchValue → Options → List ℕ → List ℕ → Context → Context → List ℕ → Bool → List ℕ → Type 0
 GoesOn search options separator name old new line counts out =
     (lines : List (List ℕ)) (counting : List Bool) (rest : List ℕ)
@@ -42,18 +42,18 @@ GoesOn search options separator name old new line counts out =
 abbrev pub next_number : Context → ℕ
 next_number context = context.number + length (held_of context)
 
--- its offset
+-- the offset of the next line
 abbrev pub next_offset : Context → ℕ
 next_offset context = context.offset + length (flat_map with_feed (held_of context))
 
--- no more lines are held than may be printed, and none is held if the next line is printed
+-- at most the lines that may be printed are held, and none if the next line is printed in any case
 pub record IsWell (options : Options) (context : Context) : Type 0 where
   pub few : length (held_of context) ≤ lines_before options
   pub none : 0 < context.due → held_of context ≡ []
   pub any : 0 < context.due → context.any ≡ true
   pub together : 0 < context.due → context.apart ≡ false
 
--- the new state is that behind one line more
+-- the new state is that after one more line
 pub record Follows (options : Options) (old new : Context) (line : List ℕ) : Type 0 where
   pub well : IsWell options new
   pub number_is : next_number new ≡ next_number old + 1

@@ -1,4 +1,4 @@
--- Lines that are passed over, and what is read as a line.
+-- Lines that are skipped, and text that is read as a line.
 use Rattle.std.specs.Prelude.{◌≡◌, ◌≢◌, ◌+◌, ◌<◌, ◌≤◌, ◌++◌, ℕ, Bool, List, [], ◌∷◌, None, Option, Some, IfSome}
 use Rattle.std.specs.Prelude.{false, if◌then◌else◌, length, slice_index, take, true}
 use Rattle.std.specs.List.{All, flat_map}
@@ -7,7 +7,7 @@ use Rattle.std.specs.Io.KnownBytes.{Consumes, IsAtEnd}
 use Rattle.literal_base.specs.MatchValue.{MatchValue}
 use Rattle.literal_base.specs.Occurs.{NothingOccurs, Occurs, whole_of}
 use Rattle.literal_search.specs.SearchValue.{SearchValue}
-use Rattle.litscan.specs.Lines.{HasNoFeed, last_line, with_feed}
+use Rattle.litscan.specs.Lines.{HasNoEnd, last_line, with_end}
 use Rattle.litscan.specs.declared.options.Options.{Options}
 use Rattle.litscan.specs.declared.passed.Passed.{Passed}
 use Rattle.litscan.specs.declared.scan.Next.{Next}
@@ -16,68 +16,68 @@ use Rattle.litscan.specs.declared.scan.Next.{Next}
 abbrev pub HasNoWord : SearchValue → List ℕ → Type 0
 HasNoWord search line = NothingOccurs search.query.patterns search.ignore_case line (whole_of line)
 
--- one occurs in it
+-- a word of a search occurs in a line
 abbrev pub HasWord : SearchValue → List ℕ → Type 0
 HasWord search line =
     (i at : ℕ) × Occurs search.query.patterns search.ignore_case line (whole_of line) i at
 
--- whole lines, in none of which a word occurs
-pub record ArePassed (search : SearchValue) (lines : List (List ℕ)) : Type 0 where
-  pub whole : All HasNoFeed lines
+-- whole lines, none of which contains a word
+pub record ArePassed (line_end : ℕ) (search : SearchValue) (lines : List (List ℕ)) : Type 0 where
+  pub whole : All (HasNoEnd line_end) lines
   pub none : All (HasNoWord search) lines
 
--- how many bytes were passed over, with those of the next line and its line feed
+-- the length of the skipped bytes, with the next line and its end
 abbrev pub len_with : ℕ → Option ℕ → ℕ
 len_with bytes None = bytes
 len_with bytes (Some len) = bytes + len + 1
 
--- the same of what was passed over
+-- the same for the skipped lines
 abbrev pub len_of : Passed → ℕ
 len_of passed = len_with passed.bytes passed.next
 
--- the next line with its line feed, if it is there
-abbrev pub next_of : Option ℕ → List ℕ → List ℕ
-next_of None line = []
-next_of (Some len) line = with_feed line
+-- the next line with its end, if it is there
+abbrev pub next_of : ℕ → Option ℕ → List ℕ → List ℕ
+next_of line_end None line = []
+next_of line_end (Some len) line = with_end line_end line
 
--- a match lies in a line of this length, which begins at a place, and whose line feed is there
-pub record LiesInLine (bytes : List ℕ) (start : ℕ) (found : MatchValue) (len : ℕ) : Type 0 where
+-- a match lies in a line of this length, which begins at this offset and has an end
+pub record LiesInLine (line_end : ℕ) (bytes : List ℕ) (start : ℕ) (found : MatchValue) (len : ℕ) : Type 0 where
   pub inside : found.end ≤ start + len
   pub fed : start + len < length bytes
-  pub feed : slice_index bytes (start + len) ≡ 10
-  pub whole : (k : ℕ) → start ≤ k → k < start + len → slice_index bytes k ≢ 10
+  pub feed : slice_index bytes (start + len) ≡ line_end
+  pub whole : (k : ℕ) → start ≤ k → k < start + len → slice_index bytes k ≢ line_end
 
--- a text is lines in which no word occurs, and maybe one line more, in which one does
-pub record Takes (search : SearchValue) (passed : Passed) (line text : List ℕ) : Type 0 where
+-- a text consists of lines without a word, and possibly one more line, with a word
+pub record Takes (line_end : ℕ) (search : SearchValue) (passed : Passed) (line text : List ℕ) : Type 0 where
   pub lines : List (List ℕ)
-  pub are : ArePassed search lines
+  pub are : ArePassed line_end search lines
   pub count : passed.lines ≡ length lines
-  pub bytes : passed.bytes ≡ length (flat_map with_feed lines)
-  pub next : IfSome passed.next (λ len. (len ≡ length line) × HasNoFeed line × HasWord search line)
-  pub text_is : text ≡ flat_map with_feed lines ++ next_of passed.next line
+  pub bytes : passed.bytes ≡ length (flat_map (with_end line_end) lines)
+  pub next : IfSome passed.next (λ len. (len ≡ length line) × HasNoEnd line_end line × HasWord search line)
+  pub text_is : text ≡ flat_map (with_end line_end) lines ++ next_of line_end passed.next line
 
 -- these bytes begin with such a text, for some such line
-abbrev pub IsAhead : SearchValue → List ℕ → Passed → Type 0
-IsAhead search bytes passed =
-    (line : List ℕ) × Takes search passed line (take (len_of passed) bytes) × (len_of passed ≤ length bytes)
+abbrev pub IsAhead : ℕ → SearchValue → List ℕ → Passed → Type 0
+IsAhead line_end search bytes passed =
+    (line : List ℕ) × Takes line_end search passed line (take (len_of passed) bytes) × (len_of passed ≤ length bytes)
 
--- what was read up to a line feed is a line, and else what stands behind the last line feed
+-- the text read as lines: up to the end of a line, it is a line; at the end of the input, only if it is not empty
 abbrev pub lines_read : Bool → List ℕ → List (List ℕ)
 lines_read true line = line ∷ []
 lines_read false last = last_line last
 
--- what was read: lines that do not count, so many with so many bytes, and what is in the buffer, as a line if a line
--- feed was behind it; in it a word occurs, if that is known
+-- the text that was read: lines that are not selected, with their number and length, and then the line buffer, followed
+-- by a line feed if `fed` is true. If `next` is known, the line buffer contains a word
 pub record TakesNext (search : SearchValue) (options : Options) (next : Next) (line : List ℕ)
     (old new : Option (List ℕ)) : Type 0 where
   pub lines : List (List ℕ)
-  pub are : ArePassed search lines
+  pub are : ArePassed options.line_end search lines
   pub none : options.others ≡ true → lines ≡ []
   pub count : next.passed.lines ≡ length lines
-  pub bytes : next.passed.bytes ≡ length (flat_map with_feed lines)
+  pub bytes : next.passed.bytes ≡ length (flat_map (with_end options.line_end) lines)
   pub known : IsSome next.passed.next → HasWord search line
-  pub whole : HasNoFeed line
+  pub whole : HasNoEnd options.line_end line
   pub between : Option (List ℕ)
-  pub passes : Consumes old between (flat_map with_feed lines)
-  pub reads : Consumes between new (if next.fed then with_feed line else line)
+  pub passes : Consumes old between (flat_map (with_end options.line_end) lines)
+  pub reads : Consumes between new (if next.fed then with_end options.line_end line else line)
   pub ended : next.fed ≡ false → OnSome between (IsAtEnd new)

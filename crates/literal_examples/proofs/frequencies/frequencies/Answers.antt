@@ -4,7 +4,7 @@ use Rattle.std.proofs.lemmas.Grind.{common_steps}
 use Rattle.std.proofs.lemmas.List.{get_or_default, length_push}
 use Rattle.std.proofs.lemmas.List.Sums.{count_by-le-length}
 use Rattle.literal_base.specs.MatchValue.{MatchValue}
-use Rattle.literal_search.proofs.lemmas.Callers.{greedy_from_matches}
+use Rattle.literal_search.proofs.lemmas.Callers.{greedy_from_matches, matches_go_on}
 use Rattle.literal_examples.proofs.frequencies.frequencies.Goals as goal
 
 pub overflow_add-index_mut : goal.overflow_add-index_mut
@@ -13,7 +13,7 @@ overflow_add-index_mut c =
     let finds = c.in-Some.ensures.steps in
     let most = count_by-le-length (λ (m : MatchValue). m.pattern == found.pattern) c.loop-found.yielded in
     let is_pattern = finds.leftmost.occurs.is_pattern in
-    let same = ap (λ (s : SearchValue). length s.query.patterns) c.loop-found.invariant.search_is in
+    let same = ap (λ (s : SearchValue). length s.query.patterns) c.loop-found.invariant.from.search_is in
     let within : found.pattern < length c.args.search.now.query.patterns = omega (arith, is_pattern, same) in
     let count = c.loop-found.invariant.counted found.pattern within in
     let now = c.index_mut.ensures.value in
@@ -41,10 +41,7 @@ loop-found-preserved c =
     let so_far = c.loop-found.invariant in
     let at_is = ap (λ m. m.at) finds.goes_on in
     record {
-      search_is = ap (λ m. m.search) finds.goes_on ∙ so_far.search_is;
-      haystack_is = ap (λ m. m.haystack) finds.goes_on ∙ so_far.haystack_is;
-      end_is = ap (λ m. m.span.end) finds.goes_on ∙ so_far.end_is;
-      within = omega (arith, at_is, so_far.end_is, finds.leftmost.whole, finds.leftmost.occurs.before_end);
+      from = matches_go_on so_far.from at_is finds;
       few = omega (
         arith,
         at_is,

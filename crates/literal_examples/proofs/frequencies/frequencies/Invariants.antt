@@ -1,13 +1,11 @@
 use Rattle.std.proofs.Common.{◌≡◌, ◌==◌, ◌<◌, ◌≤◌, ℕ, count_by, length, slice_index}
 use Rattle.literal_base.specs.MatchValue.{MatchValue}
+use Rattle.literal_search.proofs.lemmas.Callers.{AreMatchesFrom}
 use Rattle.literal_examples.proofs.frequencies.frequencies.Given as goal
 
 abbrev pub invariant-loop-found : goal.invariant-loop-found
 invariant-loop-found l = record {
-  search_is : l.found-iterator.search ≡ l.search;
-  haystack_is : l.found-iterator.haystack ≡ l.haystack;
-  end_is : l.found-iterator.span.end ≡ length l.haystack;
-  within : l.found-iterator.at ≤ length l.haystack;
+  from : AreMatchesFrom l.search l.haystack l.found-iterator.at l.found-iterator;
   few : length l.yielded ≤ l.found-iterator.at;
   len : length l.counts.items ≡ length l.search.query.patterns;
   counted : (i : ℕ) → i < length l.search.query.patterns

@@ -1,8 +1,8 @@
 use Rattle.literal_base.specs.declared.search.Span.{Span}
-use Rattle.std.proofs.Common.{rules, refl, Some, ◌<◌, ◌≤◌, ◌≡◌, ◌++◌, ◌∷◌, [], length, List, sym, ap, subst}
+use Rattle.std.proofs.Common.{refl, Some, ◌<◌, ◌≤◌, ◌≡◌, ◌++◌, ◌∷◌, [], length, List, sym, ap, subst}
 use Rattle.std.proofs.Common.{◌∙◌, arith}
 use Rattle.literal_base.specs.Greedy.{IsGreedy}
-use Rattle.literal_search.proofs.lemmas.Callers.{greedy_from_matches}
+use Rattle.literal_search.proofs.lemmas.Callers.{greedy_from_matches, matches_go_on}
 use Rattle.literal_examples.specs.Tokens.{GapsAreWhole, Tiles, gap, match_in, matched}
 use Rattle.literal_examples.specs.declared.tokens.Token.{Token}
 use Rattle.literal_examples.proofs.lemmas.Tokens.{tiles_push, tiles_gap, matched-append, matched-gap, whole_gap}
@@ -30,11 +30,7 @@ loop-found-preserved c =
     let is_found : match_in c.span.result (Some c.pattern.result) ≡ found ∷ [] =
     rw (c.pattern.ensures, span_is) refl in
     record {
-      search_is = search rules;
-      haystack_is = search rules;
-      end_is = search rules;
-      at_is = search rules;
-      within = omega (arith, so_far.end_is, finds.leftmost.whole, finds.leftmost.occurs.before_end);
+      from = matches_go_on so_far.from c.end-at.ensures.end finds;
       tiles = subst (λ (ts : List Token). Tiles 0 c.end-at.result ts) (sym pushed)
           (subst (λ e. Tiles 0 e ((all ++ gap at c.start.result) ++ token ∷ [])) end_is tiled);
       matched_are = ap matched pushed ∙ (matched-append (all ++ gap at c.start.result) (token ∷ [])
@@ -48,7 +44,8 @@ loop-found-preserved c =
 pub returns-clause-tiles : goal.returns-clause-tiles
 returns-clause-tiles c =
     subst (λ (ts : List Token). Tiles 0 (length c.args.haystack.now) ts) (sym c.in_ok-push_gap-2.ensures.ok)
-    (tiles_gap 0 c.loop-found.at _ c.loop-found.all.items c.loop-found.invariant.tiles c.loop-found.invariant.within)
+    (tiles_gap 0 c.loop-found.at _ c.loop-found.all.items c.loop-found.invariant.tiles
+    c.loop-found.invariant.from.within)
 
 pub returns-clause-matched : goal.returns-clause-matched
 returns-clause-matched c =

@@ -1,5 +1,5 @@
 -- A folding has as many bytes as its character.
-use Rattle.std.proofs.Common.{rules, ◌≡◌, ◌≤◌, ◌++◌, length, ap, ◌∙◌, sym, drop, arith}
+use Rattle.std.proofs.Common.{rules, ◌≡◌, ◌++◌, length, ap, ◌∙◌, sym, drop, arith}
 use Rattle.std.specs.Char.{encode_utf8, len_utf8}
 use Rattle.literal_folding.specs.Folding.{folded_char}
 use Rattle.literal_folding.proofs.lemmas.Texts.{room_for_folding, with_first_folded-none, with_first_folded-same}

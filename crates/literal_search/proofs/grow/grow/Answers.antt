@@ -1,30 +1,30 @@
 use Rattle.std.proofs.lemmas.Grind.{common_steps}
 use Rattle.std.proofs.Common.{◌≡◌, ◌*◌, ◌∙◌, ap, arith, length, refl, subst}
 use Rattle.std.proofs.Math.Nat.{mul-le-mul_right}
-use Rattle.literal_search.specs.Inside.Growing.{texts_of, words_of}
+use Rattle.literal_search.specs.Inside.Construction.{texts_of, words_of}
 use Rattle.literal_search.specs.States.{IsRowsLength}
 use Rattle.literal_search.specs.Table.{Recognises, stride_of}
 use Rattle.literal_search.specs.declared.grow.Texts.{Texts}
-use Rattle.literal_search.proofs.lemmas.Growing.{recognises}
+use Rattle.literal_search.proofs.lemmas.Construction.{recognises}
 use Rattle.literal_search.proofs.lemmas.States.{few_states, states_made, symbols_below}
 use Rattle.literal_search.proofs.grow.grow.Goals as goal
 
 pub returns-clause-recognises : goal.returns-clause-recognises
 returns-clause-recognises c =
-    let g = c.loop-state.growing in
+    let g = c.loop-state.construction in
     let said = c.loop-state.invariant in
     let known = c.len.ensures ∙ g.states.ok.0 in
     let late = c.loop-state-test.false in
     let all : c.loop-state.state ≡ length g.states.items = omega (arith, known, late, said.states) in
     subst (λ (t : Texts). Recognises (texts_of t) t.width g.rows.items)
-    (said.texts ∙ c.in_ok-growing.ensures.texts)
+    (said.texts ∙ c.in_ok-construction.ensures.texts)
     (recognises g.texts g.states.items g.lists.items g.rows.items said.grows
     (said.filled ∙ ap (λ n. n * stride_of g.texts.width) all))
 
 pub returns-clause-states : goal.returns-clause-states
 unfolding recognises IsRowsLength
 returns-clause-states c =
-    let g = c.loop-state.growing in
+    let g = c.loop-state.construction in
     let t = g.texts in
     let said = c.loop-state.invariant in
     let known = c.len.ensures ∙ g.states.ok.0 in
@@ -33,7 +33,7 @@ returns-clause-states c =
     let are = recognises t g.states.items g.lists.items g.rows.items said.grows
     (said.filled ∙ ap (λ n. n * stride_of t.width) all) in
     subst (λ (t : Texts). IsRowsLength (texts_of t) t.width (length g.rows.items))
-    (said.texts ∙ c.in_ok-growing.ensures.texts) (
+    (said.texts ∙ c.in_ok-construction.ensures.texts) (
       length (words_of g),
       record {
         texts = words_of g;

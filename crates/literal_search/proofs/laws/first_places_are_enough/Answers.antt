@@ -1,4 +1,4 @@
--- The first places of an array that is prepared. For the laws.
+-- The first entries of an array that is prepared. For the laws.
 use Rattle.std.proofs.Common.{◌≡◌, ℕ, ◌+◌, ◌-◌, ◌<◌, ◌≤◌, List, get_or, length, take, sym, arith}
 use Rattle.std.proofs.lemmas.List.{drop-take, get_or-take, length-take, take-take}
 use Rattle.std.specs.List.{slice_range}
@@ -9,7 +9,7 @@ use Rattle.literal_search.specs.PreparedOverlapping.{IsPreparedOverlapping, ends
 use Rattle.literal_search.proofs.lemmas.BackTables.{same_tables as same_back}
 use Rattle.literal_search.proofs.laws.first_places_are_enough.Goals as goal
 
--- a part of the first places is that of all
+-- a part of the first entries is that of all
 part_of_first : (n : ℕ) (numbers : List ℕ) (from to : ℕ) → from ≤ to → to ≤ n
     → slice_range (take n numbers) from to ≡ slice_range numbers from to
 part_of_first n numbers from to ordered inside =
@@ -29,14 +29,14 @@ module _ (search : SearchValue) (old new : List ℕ)
     prepared_as prepared = grind (arith, same_back)
 
 module _ (search : SearchValue) (numbers : List ℕ) (n : ℕ) where
-  -- what is prepared in the first places is so in all
+  -- what is prepared in the first entries is so in all
   longer : IsPrepared search (take n numbers) → IsPrepared search numbers
   longer prepared =
       let long = length-take n numbers in
       prepared_as search (take n numbers) numbers (λ k below. sym (get_or-take n numbers k 0 (omega arith)))
       (grind (arith, part_of_first)) (omega arith) prepared
 
-  -- and in as many places as it takes
+  -- and in as many entries as it needs
   shorter : IsPrepared search numbers → prepared_len numbers ≤ n
       → IsPrepared search (take n numbers)
   shorter prepared enough =
@@ -59,7 +59,7 @@ module _ (search : OverlappingValue) (old new : List ℕ)
     listed_is : listed_len new ≡ listed_len old
     listed_is = grind (arith, ends_is)
 
-    -- a part that lies at the same places is the same
+    -- a part that lies at the same indices is the same
     part_is : (from to from' to' : ℕ) → from' ≡ from → to' ≡ to → from ≤ to → to ≤ overlapping_len old
         → slice_range new from' to' ≡ slice_range old from to
     part_is from to from' to' from_is to_is ordered inside = grind arith

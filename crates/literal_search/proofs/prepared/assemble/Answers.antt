@@ -42,8 +42,8 @@ returns c =
     let starts = c.args.starts.now in
     let behind = c.args.ends.now ++ c.args.prints.now in
     let width = c.args.classes.now.width in
-    let body = λ (n places : ℕ) (l : List ℕ).
-    checked c.args.version (width ∷ n ∷ places ∷ longest_of bytes ∷ l ++ (rows ++ classes) ++ starts ++ behind) in
+    let body = λ (n rows_len : ℕ) (l : List ℕ).
+    checked c.args.version (width ∷ n ∷ rows_len ∷ longest_of bytes ∷ l ++ (rows ++ classes) ++ starts ++ behind) in
     assembled c.args.version width (length patterns) c.len.result (longest_of bytes) c.check_over.result lengths rows
     classes starts c.args.ends.now c.args.prints.now c.shrink_to_fit.new.self.items
     (all ∙ ap (λ l. ((((l ++ rows) ++ classes) ++ starts) ++ c.args.ends.now) ++ c.args.prints.now)

@@ -1,6 +1,10 @@
 use Rattle.std.proofs.Common.{◌≡◌, take}
-use Rattle.literal_search.specs.Prepared.{check_of}
+use Rattle.std.specs.List.{fold}
+use Rattle.literal_search.specs.Prepared.{Checks, checks_with}
+use Rattle.literal_search.proofs.lemmas.Check.{at_first}
 use Rattle.literal_search.proofs.prepared.check_over.Given as goal
 
 abbrev pub invariant-loop-number : goal.invariant-loop-number
-invariant-loop-number l = l.check ≡ check_of (take l.number-index l.numbers)
+invariant-loop-number l =
+    (let four : Checks = record { first = l.first; second = l.second; third = l.third; fourth = l.fourth } in four)
+    ≡ fold checks_with at_first (take l.number-index l.numbers)

@@ -37,7 +37,7 @@ part_ahead : (before ahead more : List ℕ) (at n : ℕ) → length before ≡ a
     → slice_range (before ++ (ahead ++ more)) at (at + n) ≡ take n ahead
 part_ahead before ahead more at n len within = grind (arith, drop-append_seam, take-append-le)
 
--- what begins at a later place is replaced in the same way from an earlier one on
+-- what begins at a later offset is replaced in the same way from an earlier one on
 replaced_later : (query : Query) (ignore_case : Bool) (text : List ℕ) (replacements : List (List ℕ)) (from to : ℕ)
     (matches : List MatchValue) → from ≤ to → to ≤ length text → IsGreedy query ignore_case text to matches
     → replaced text replacements from matches ≡ slice_range text from to ++ replaced text replacements to matches
@@ -48,7 +48,7 @@ replaced_later query ignore_case text replacements from to (found ∷ more) late
     ap (λ l. l ++ rest) (grind (arith, slice_halves))
     ∙ append_assoc (slice_range text from to) (slice_range text to found.start) rest
 
--- where nothing begins before a later place, the matches from there on are those from an earlier one on
+-- where nothing begins before a later offset, the matches from there on are those from an earlier one on
 greedy_later : (query : Query) (ignore_case : Bool) (text : List ℕ) (from to : ℕ) (matches : List MatchValue)
     → from ≤ to → ((i p : ℕ) → Occurs query.patterns ignore_case text (rest_from text from) i p → to ≤ p)
     → IsGreedy query ignore_case text to matches → IsGreedy query ignore_case text from matches
@@ -80,18 +80,18 @@ module _ (search : SearchValue) (replacements : List (List ℕ)) (is_whole : Boo
       }
 
   -- what no match begins in
-  writes_place : (at : ℕ) (ahead : List ℕ) (place : ℕ) → place ≤ length ahead
+  writes_place : (at : ℕ) (ahead : List ℕ) (offset : ℕ) → offset ≤ length ahead
       → ((more : List ℕ) → (is_whole ≡ true → more ≡ []) → (i p : ℕ)
-      → Occurs search.query.patterns search.ignore_case (ahead ++ more) (rest_from (ahead ++ more) 0) i p → place ≤ p)
-      → WritesOn search replacements is_whole at (at + place) ahead (take place ahead)
-  writes_place at ahead place within none =
+      → Occurs search.query.patterns search.ignore_case (ahead ++ more) (rest_from (ahead ++ more) 0) i p → offset ≤ p)
+      → WritesOn search replacements is_whole at (at + offset) ahead (take offset ahead)
+  writes_place at ahead offset within none =
       record {
         later = omega arith;
         within = omega (arith, within);
         goes_on = λ before more rest len over is.
-            let after = none_ahead search.query.patterns search.ignore_case before (ahead ++ more) place
+            let after = none_ahead search.query.patterns search.ignore_case before (ahead ++ more) offset
             (none more over) in
-            let part = part_ahead before ahead more at place len within in
+            let part = part_ahead before ahead more at offset len within in
             record {
               matches = is.matches;
               are_greedy = grind (arith, greedy_later);
@@ -105,7 +105,7 @@ module _ (search : SearchValue) (replacements : List (List ℕ)) (is_whole : Boo
       → AnswersSoFar search.query search.ignore_case (ahead ++ more) 0 known)
       → WritesOn search replacements is_whole at (at + told_to known) ahead (known_part replacements ahead known)
   writes_known at ahead (Found found) within answers = writes_match at ahead found within answers
-  writes_known at ahead (NoneBefore place) within answers = writes_place at ahead place within answers
+  writes_known at ahead (NoneBefore offset) within answers = writes_place at ahead offset within answers
 
   -- first the one, and then the other
   writes_more : (from at to : ℕ) (ahead out next : List ℕ)
@@ -171,7 +171,7 @@ written_on search replacements w v r s unread now left contents before written t
     let here : held v ≡ drop at (old.text ++ piece) =
     grind (arith, drop-append-le) in
     let whole : at - 0 ≡ at = omega arith in
-    let place : to ≡ at + told_to told = to_is ∙ ap (λ n. n + told_to told) offset in
+    let offset_is : to ≡ at + told_to told = to_is ∙ ap (λ n. n + told_to told) offset in
     let still : r.is_whole ≡ true → (s.is_whole ≡ true) × (piece ≡ []) = grind arith in
     record {
       text = old.text ++ piece;
@@ -180,7 +180,7 @@ written_on search replacements w v r s unread now left contents before written t
       ahead_is = grind (arith, drop-drop);
       writes = Appends-trans contents before written old.out next old.writes writes;
       so_far = subst (λ n. WritesOn search replacements s.is_whole 0 n (old.text ++ piece) (old.out ++ next))
-          (sym place)
+          (sym offset_is)
           (writes_more search replacements s.is_whole 0 at (at + told_to told) (old.text ++ piece) old.out next
           (writes_behind search replacements r.is_whole s.is_whole 0 at old.text piece old.out still old.so_far)
           (subst (λ l. WritesOn search replacements s.is_whole at (at + told_to told) l next)
@@ -205,7 +205,7 @@ has_replacement : (search : SearchValue) (is_whole : Bool) (ahead : List ℕ) (r
     → AnswersSoFar search.query search.ignore_case (ahead ++ more) 0 told) → MayBeKnown replacements 0 told
 has_replacement search is_whole ahead replacements (Found found) one_for_each answers =
     (omega arith, omega (arith, (answers [] (λ is. refl)).occurs.is_pattern))
-has_replacement search is_whole ahead replacements (NoneBefore place) one_for_each answers = omega arith
+has_replacement search is_whole ahead replacements (NoneBefore offset) one_for_each answers = omega arith
 
 -- once a text is over, and all of it is written
 rewritten : (search : SearchValue) (replacements : List (List ℕ)) (to : ℕ) (text out : List ℕ)

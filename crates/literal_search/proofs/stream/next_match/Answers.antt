@@ -41,7 +41,7 @@ loop-found-preserved g c =
     record {
       sound = grind arith;
       gone = gone_past old (stream_value search v s left false)
-          (stream_value search c.pass.new.self s left false) c.in-NoneBefore.place
+          (stream_value search c.pass.new.self s left false) c.in-NoneBefore.offset
           (omega (arith, one.known)) (λ more. one.answers more (λ is. absurd (cc))) (cc)
           (gone_on old search c.loop-found.window v c.loop-found.reading s _ left before.sound.reading one.offset
           one.read before.gone);

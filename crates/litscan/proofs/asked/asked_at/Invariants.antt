@@ -9,7 +9,7 @@ invariant-loop-found l = record {
   start : l.rest.start ≡ l.start;
   ordered : l.start ≤ l.rest.end;
   inside : l.rest.end ≤ l.end;
-  ends : (i : ℕ) → OccursAsked l.search l.options l.line (between l.start l.end) i l.start
+  ends : (i : ℕ) → OccursAsked l.search l.fn.options l.line (between l.start l.end) i l.start
       → l.start + length (pattern_at l.search.query.patterns i) ≤ l.rest.end;
 }
 

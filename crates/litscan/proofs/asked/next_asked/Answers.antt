@@ -1,7 +1,8 @@
-use Rattle.std.proofs.Common.{◌≡◌, ◌∙◌, false, ap, arith, sym}
+use Rattle.std.proofs.Common.{◌≡◌, ◌∙◌, false, ap, arith, inl, inr, sym}
+use Rattle.std.proofs.lemmas.Bool.{both_ways, cases_lt}
 use Rattle.literal_base.specs.declared.search.Span.{Span}
 use Rattle.litscan.specs.Asked.{OccursAsked, is_asked}
-use Rattle.litscan.proofs.lemmas.Asked.{asked_in, begins_behind, first_from, first_shorter}
+use Rattle.litscan.proofs.lemmas.Asked.{asked_in, asks_alone, begins_behind, first_from, first_shorter, has_sides}
 use Rattle.litscan.proofs.asked.next_asked.Goals as goal
 
 pub returns-in-Some-asked_at-clause-first : goal.returns-in-Some-asked_at-clause-first
@@ -30,17 +31,17 @@ loop-found-preserved c =
     let other : is_asked options line found.start found.end ≡ false =
     ap (λ (s : Span). is_asked options line s.start s.end) (sym c.span.ensures.span) ∙ sym c.is_asked.ensures
     ∙ c.if-is_asked.false in
+    let part = c.if-options.false in
     record {
-      after = omega (arith, c.start-in-Some.ensures.start, leftmost.occurs.after_start, so_far.after);
-      inside =
+      after =
           omega (
             arith,
+            c.first_start.ensures.inside,
             c.start-in-Some.ensures.start,
-            c.in-Some.ensures.not_empty,
-            leftmost.whole,
-            leftmost.occurs.before_end,
-            so_far.to_end,
+            leftmost.occurs.after_start,
+            so_far.after,
           );
+      inside = c.first_start.ensures.inside.1;
       to_end = so_far.to_end;
       begins = λ i at o.
           let rest : OccursAsked search options line c.loop-found.rest i at =
@@ -48,5 +49,20 @@ loop-found-preserved c =
           let behind = begins_behind search options line c.requires.longest leftmost other c.start.ensures.start
           (omega (arith, c.end.ensures.end, c.in-Some.ensures.not_empty)) c.in_default-asked_at.ensures.first i at
           rest in
-          omega (arith, behind, c.start-in-Some.ensures.start);
+          elim (cases_lt at c.first_start.result) [
+            | inl before ↦
+                absurd (both_ways _ (has_sides search options line _ _ part
+                (asks_alone search options line _ _ part other) o.asked).0
+                (c.first_start.ensures.passed at (omega (arith, behind, c.start-in-Some.ensures.start)) before))
+            | inr not_before ↦ not_before
+          ];
     }
+
+pub asked_at-requires-clause-alone : goal.asked_at-requires-clause-alone
+asked_at-requires-clause-alone c =
+    let other : is_asked c.args.options c.args.line.now c.in-Some.found.start c.in-Some.found.end ≡ false =
+    ap (λ (s : Span). is_asked c.args.options c.args.line.now s.start s.end) (sym c.span.ensures.span)
+    ∙ sym c.is_asked.ensures ∙ c.if-is_asked.false in (
+      c.if-options.false,
+      asks_alone c.args.search.now c.args.options c.args.line.now _ _ c.if-options.false other,
+    )

@@ -30,14 +30,15 @@ any_more test xs x b is =
     alone false = refl
 
 -- one file more
-module _ (search : SearchValue) (options : Options) (separator : List ℕ) (output : Option FileId) where
+module _ (search : SearchValue) (options : Options) (separator label : List ℕ)
+    (output : Option FileId) where
   prints_push : (any last : Bool) (all : List Searched) (one : Searched)
       → last ≡ (any || list_any (λ one. nat_lt 0 one.scanned.count) all)
-      → PrintsFiles search options separator output any all
-      → PrintsFile search options separator last output one.name one.text one.scanned one.out
-      → PrintsFiles search options separator output any (all ++ one ∷ [])
+      → PrintsFiles search options separator label output any all
+      → PrintsFile search options separator label last output one.name one.text one.scanned one.out
+      → PrintsFiles search options separator label output any (all ++ one ∷ [])
   prints_push any last [] one is printed more = (
-    subst (λ b. PrintsFile search options separator b output one.name one.text one.scanned one.out)
+    subst (λ b. PrintsFile search options separator label b output one.name one.text one.scanned one.out)
         (is ∙ or_none any) more,
     tt,
   )
@@ -78,7 +79,8 @@ loop-name-preserved g c =
     let got = c.in_ok-scanned.ensures.printed in
     let names = c.args.names.now in
     let item = c.name-item.result in
-    let prints = PrintsFile c.args.search.now c.args.options c.args.separator.now c.loop-name.found.any c.args.output in
+    let prints = PrintsFile c.args.search.now c.args.options c.args.separator.now c.args.label.now
+    c.loop-name.found.any c.args.output in
     let one : Searched =
     record { name = item.items; text = got.0; scanned = c.in_ok-scanned.scanned; out = got.1 } in
     record {
@@ -89,8 +91,8 @@ loop-name-preserved g c =
           (sym c.name-item.is) ∙ ap (λ front. front ++ item.items ∷ []) so_far.names
           ∙ sym (map_push (λ one. one.name) so_far.all one);
       each =
-          prints_push c.args.search.now c.args.options c.args.separator.now c.args.output false c.loop-name.found.any
-          so_far.all one so_far.any so_far.each
+          prints_push c.args.search.now c.args.options c.args.separator.now c.args.label.now c.args.output false
+          c.loop-name.found.any so_far.all one so_far.any so_far.each
           (subst (λ name. prints name got.0 c.in_ok-scanned.scanned got.1)
           c.as_slice.ensures.value got.2);
       any =

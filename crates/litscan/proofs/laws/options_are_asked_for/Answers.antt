@@ -1,20 +1,17 @@
-use Rattle.std.proofs.Common.{◌≡◌, ◌≢◌, ◌+◌, ◌||◌, ◌++◌, ◌∷◌, [], ◌∙◌, ℕ, List, Result, Ok, Err, IfOk, Some, None}
+use Rattle.std.proofs.Common.{◌≡◌, ◌≢◌, ◌+◌, ◌++◌, ◌∷◌, [], ◌∙◌, ℕ, List, Result, Ok, Err, IfOk, Some, None}
 use Rattle.std.proofs.Common.{Option}
-use Rattle.std.proofs.Common.{codes}
-use Rattle.std.proofs.Common.{append-nil, append_assoc, ap, arith, false, inl, inr, length, nat_lt, refl, subst}
+use Rattle.std.proofs.Common.{append-nil, append_assoc, ap, arith, false, length, nat_lt, refl, subst}
 use Rattle.std.proofs.Common.{sym, true}
 use Rattle.std.proofs.lemmas.Result.{IfOk-weaker}
-use Rattle.std.specs.Str.{bytes_eq}
-use Rattle.std.proofs.lemmas.Bool.{cases_Bool, cond-false, lt-ltb, ne_eqb}
-use Rattle.std.proofs.lemmas.Slice.Eq.{bytes_eq-Decides}
+use Rattle.std.proofs.lemmas.Bool.{cond-false, lt-ltb, ne_eqb}
 use Rattle.std.specs.Char.{is_ascii_digit}
 use Rattle.std.specs.Option.{ok_or, option_map}
-use Rattle.litscan.specs.Options.{behind_number, is_color, is_separator, letter_named, takes_argument}
-use Rattle.litscan.specs.Options.{with_letter, with_plain_letter}
+use Rattle.litscan.specs.Options.{behind_number, takes_argument, with_letter}
+use Rattle.litscan.specs.Options.{with_plain_letter}
 use Rattle.litscan.specs.Request.{Asked, RequestValue, asked_from, at_front, result_and_then, with_any, with_file}
-use Rattle.litscan.specs.Request.{with_lettered, with_letters, with_next}
+use Rattle.litscan.specs.Request.{with_letters, with_next, with_option}
 use Rattle.litscan.specs.declared.fault.Fault.{Fault}
-use Rattle.litscan.specs.declared.fault.Fault.TheVariants.{UnknownLetter, UnknownName}
+use Rattle.litscan.specs.declared.fault.Fault.TheVariants.{UnknownLetter}
 use Rattle.litscan.specs.declared.options.Options.{Options}
 use Rattle.litscan.specs.declared.request.Next.TheVariants as next
 use Rattle.litscan.proofs.laws.options_are_asked_for.Goals as goal
@@ -76,32 +73,9 @@ returns-clause-joined c = λ letter second more request none plain other others.
         sym (letters_of second more (record here { options = behind_number options }) other)
     in_a_word letter here none second more other None = refl
 
--- a name that has a letter is not one that has none
-not_named : (name known : List ℕ) (letter : ℕ) → letter_named name ≡ Some letter → letter_named known ≡ None
-    → bytes_eq name known ≡ false
-not_named name known letter is none =
-    elim (cases_Bool (bytes_eq name known)) [
-      | inl same ↦
-          let no_letter : Some letter ≡ None =
-          sym is ∙ ap letter_named ((bytes_eq-Decides name known).0 same) ∙ none in absurd (cc)
-      | inr other ↦ other
-    ]
-
 pub returns-clause-named : goal.returns-clause-named
 returns-clause-named c = λ name letter request is.
-    let color = not_named name (codes "--color") letter is refl in
-    let colour = not_named name (codes "--colour") letter is refl in
-    let separator = not_named name (codes "--group-separator") letter is refl in
-    let buffered = not_named name (codes "--line-buffered") letter is refl in
-    let unseparated = not_named name (codes "--no-group-separator") letter is refl in
-    let kept = not_named name (codes "--no-ignore-case") letter is refl in
-    cond-false (is_color name) _ _ (ap (λ b. b || bytes_eq name (codes "--colour")) color ∙ colour)
-    ∙ cond-false (is_separator name) _ _ separator
-    ∙ ap (λ found. with_lettered found name request)
-    (cond-false (bytes_eq name (codes "--line-buffered")) _ _ buffered
-    ∙ cond-false (bytes_eq name (codes "--no-group-separator")) _ _ unseparated
-    ∙ cond-false (bytes_eq name (codes "--no-ignore-case")) _ _ kept)
-    ∙ ap (λ found. result_and_then (λ l. with_letters (l ∷ []) request) (ok_or found (UnknownName request.at))) is
+    ap (result_and_then (λ option. with_option option request)) is
 
 -- the files behind two dashes
 files_from : (at : ℕ) (words : List (List ℕ)) (request : RequestValue) → request.next ≡ next.File

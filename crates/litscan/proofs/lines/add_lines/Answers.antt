@@ -3,7 +3,7 @@ use Rattle.std.proofs.lemmas.List.{map-append}
 use Rattle.std.proofs.lemmas.List.Elements.{All-push}
 use Rattle.std.proofs.lemmas.Result.{on_ok_weaker}
 use Rattle.std.specs.List.{flat_map}
-use Rattle.litscan.specs.Lines.{HasNoFeed, last_line, with_feed}
+use Rattle.litscan.specs.Lines.{HasNoEnd, last_line, with_end}
 use Rattle.litscan.proofs.lemmas.Lines.{lines_of-split}
 use Rattle.litscan.proofs.lemmas.Reading.{read_all, read_more}
 use Rattle.litscan.proofs.lines.add_lines.Goals as goal
@@ -15,8 +15,9 @@ loop-preserved g c =
     let pushed : c.push.new.self.items ≡ c.loop.words.items ++ line ∷ [] = search rules in
     record {
       seen = so_far.seen ++ line.items ∷ [];
-      whole = All-push HasNoFeed so_far.seen line.items so_far.whole c.in_ok-read_line.ensures.whole;
-      read = read_more _ _ _ so_far.seen line.items _ c.if-not-branch.false so_far.read c.in_ok-read_line.ensures.bytes;
+      whole = All-push (HasNoEnd 10) so_far.seen line.items so_far.whole c.in_ok-read_line.ensures.whole;
+      read = read_more 10 _ _ _ so_far.seen line.items _ c.if-not-branch.false so_far.read
+          c.in_ok-read_line.ensures.bytes;
       added =
           ap (map (λ word. word.items)) pushed ∙ map-append (λ word. word.items) c.loop.words.items (line ∷ [])
           ∙ ap (λ words. words ++ line.items ∷ []) so_far.added ∙ append_assoc _ so_far.seen (line.items ∷ []);
@@ -30,10 +31,10 @@ returns-then-not-branch-clause-read g c =
     let whole = c.in_ok-read_line.ensures.whole in
     on_ok_weaker c.add_last.result
     (λ added. (
-      flat_map with_feed so_far.seen ++ last,
-      read_all _ _ _ (flat_map with_feed so_far.seen) last _ c.if-not-branch.true so_far.read
+      flat_map (with_end 10) so_far.seen ++ last,
+      read_all 10 _ _ _ (flat_map (with_end 10) so_far.seen) last _ c.if-not-branch.true so_far.read
           c.in_ok-read_line.ensures.bytes c.in_ok-read_line.ensures.ended,
       added ∙ ap (λ words. words ++ last_line last) so_far.added ∙ append_assoc had so_far.seen (last_line last)
-          ∙ ap (λ lines. had ++ lines) (sym (lines_of-split so_far.seen last so_far.whole whole)),
+          ∙ ap (λ lines. had ++ lines) (sym (lines_of-split 10 so_far.seen last so_far.whole whole)),
     ))
     c.add_last.ensures.added

@@ -6,13 +6,12 @@ use Rattle.std.proofs.KnownBytes.{Consumes-nil}
 use Rattle.std.proofs.lemmas.Bool.{ltb-false, ltb-true}
 use Rattle.std.proofs.lemmas.List.{length_push}
 use Rattle.std.proofs.lemmas.List.Elements.{All-nil, All-push}
-use Rattle.std.specs.Io.KnownBytes.{Consumes}
 use Rattle.std.specs.List.{flat_map}
 use Rattle.std.specs.Option.{IsSome}
 use Rattle.std.specs.declared.io.ErrorKind.TheVariants.{FileTooLarge}
-use Rattle.litscan.specs.Lines.{HasNoFeed, last_line, with_feed}
+use Rattle.litscan.specs.Lines.{HasNoEnd, last_line, with_end, with_feed}
 use Rattle.litscan.specs.Options.{is_enough, limit_of}
-use Rattle.litscan.specs.Printed.{CannotRead, ReadsAll, ReadsTooMany, counts}
+use Rattle.litscan.specs.Printed.{CannotRead, ReadsTooMany, counts}
 use Rattle.litscan.proofs.lemmas.Lines.{lines_of-feeds, lines_of-split}
 use Rattle.litscan.proofs.lemmas.Near.{Answers, NearSoFar, near_all, near_few, near_kept, near_more, near_new}
 use Rattle.litscan.proofs.lemmas.Near.{near_scanned, one_if}
@@ -51,7 +50,7 @@ loop-context-init g c =
       out = [];
       so_far = near_new c.args.search.now c.args.options c.args.separator.now c.args.any c.args.name.now _
           c.new-context.result (ap (map (λ line. line.items)) new.held) new.number new.offset new.due new.any new.apart;
-      whole = All-nil HasNoFeed;
+      whole = All-nil (HasNoEnd c.args.options.line_end);
       read = Consumes-nil _;
       offset_is = refl;
       next_offset_is =
@@ -75,9 +74,10 @@ returns-then-not-is_due-clause-scanned g c =
     let none : c.loop-context.context.due ≡ 0 = omega (arith, above) in
     subst (Answers c.args.search.now c.args.options c.args.separator.now c.args.any c.args.name.now _ _ _ _)
     (sym c.whole.ensures)
-    (near_scanned so_far c.requires.context (flat_map with_feed seen)
-    (lines_of-feeds seen c.loop-context.invariant.whole) None _ _
-    (reads_enough _ _ _ (flat_map with_feed seen) (near_all so_far c.requires.context enough none)
+    (near_scanned so_far c.requires.context (flat_map (with_end c.args.options.line_end) seen)
+    (lines_of-feeds c.args.options.line_end seen c.loop-context.invariant.whole) None _ _
+    (reads_enough _ _ _ (flat_map (with_end c.args.options.line_end) seen)
+    (near_all so_far c.requires.context enough none)
     c.loop-context.invariant.read))
 
 pub returns-in-Err-clause-scanned : goal.returns-in-Err-clause-scanned
@@ -89,9 +89,10 @@ returns-in-Err-clause-scanned g c =
     (λ scanned is.
     subst (Answers c.args.search.now c.args.options c.args.separator.now c.args.any c.args.name.now _ _ _ _)
     (sym is.0)
-    (near_scanned so_far c.requires.context (flat_map with_feed seen)
-    (lines_of-feeds seen c.loop-context.invariant.whole) c.failure.result _ _
-    (reads_front c.failure.result _ _ (g.R.Read.remaining c.loop-context.reader.inner) _ (flat_map with_feed seen)
+    (near_scanned so_far c.requires.context (flat_map (with_end c.args.options.line_end) seen)
+    (lines_of-feeds c.args.options.line_end seen c.loop-context.invariant.whole) c.failure.result _ _
+    (reads_front c.failure.result _ _ (g.R.Read.remaining c.loop-context.reader.inner) _
+    (flat_map (with_end c.args.options.line_end) seen)
     (subst IsSome (sym c.failure.ensures) (read_failed_if _ _ c.in-Err.fault stops is.1))
     c.loop-context.invariant.read)))
 
@@ -101,10 +102,10 @@ returns-in_default-clause-scanned g c =
     let so_far = near_kept c.loop-context.invariant.so_far _ c.in-Ok.ensures.kept in
     subst (Answers c.args.search.now c.args.options c.args.separator.now c.args.any c.args.name.now _ _ _ _)
     (sym c.too_large.ensures)
-    (near_scanned so_far c.requires.context (flat_map with_feed seen)
-    (lines_of-feeds seen c.loop-context.invariant.whole) (Some FileTooLarge)
+    (near_scanned so_far c.requires.context (flat_map (with_end c.args.options.line_end) seen)
+    (lines_of-feeds c.args.options.line_end seen c.loop-context.invariant.whole) (Some FileTooLarge)
     (g.R.Read.remaining c.args.reader.now.inner) (g.R.Read.remaining c.read_line.new.reader.inner)
-    (begins_with _ (g.R.Read.remaining c.loop-context.reader.inner) (flat_map with_feed seen)
+    (begins_with _ (g.R.Read.remaining c.loop-context.reader.inner) (flat_map (with_end c.args.options.line_end) seen)
     c.loop-context.invariant.read))
 
 pub returns-in_default-clause-failed : goal.returns-in_default-clause-failed
@@ -114,7 +115,8 @@ returns-in_default-clause-failed g c =
     (ReadsTooMany (g.R.Read.remaining c.args.reader.now.inner) (g.R.Read.remaining c.read_line.new.reader.inner))
     scanned.failure) (sym c.too_large.ensures)
     (inr (
-      too_many_with _ _ _ (flat_map with_feed seen) c.read_line.new.line.items _ c.loop-context.invariant.read
+      too_many_with c.args.options.line_end _ _ _
+          (flat_map (with_end c.args.options.line_end) seen) c.read_line.new.line.items _ c.loop-context.invariant.read
           c.in-Ok.ensures.bytes
           (omega (arith, c.in_default.ensures, c.loop-context.invariant.offset_is, c.as_slice.ensures.len)),
       refl,
@@ -129,18 +131,19 @@ returns-then-is_empty-clause-scanned g c =
     let empty : length line ≡ 0 = grind (arith, common_steps) in
     subst (Answers c.args.search.now c.args.options c.args.separator.now c.args.any c.args.name.now _ _ _ _)
     (sym c.whole-then-is_empty.ensures)
-    (near_scanned so_far c.requires.context (flat_map with_feed seen ++ line)
-    (lines_of-split seen line c.loop-context.invariant.whole c.in-Ok.ensures.whole
+    (near_scanned so_far c.requires.context (flat_map (with_end c.args.options.line_end) seen ++ line)
+    (lines_of-split c.args.options.line_end seen line c.loop-context.invariant.whole c.in-Ok.ensures.whole
     ∙ ap (λ l. seen ++ l) (no_last line empty) ∙ append-nil seen) None _ _
-    (reads_any _ _ _ (flat_map with_feed seen ++ line)
-    (read_all _ _ _ (flat_map with_feed seen) line c.in-Ok.fed unfed c.loop-context.invariant.read
+    (reads_any _ _ _ (flat_map (with_end c.args.options.line_end) seen ++ line)
+    (read_all c.args.options.line_end _ _ _
+    (flat_map (with_end c.args.options.line_end) seen) line c.in-Ok.fed unfed c.loop-context.invariant.read
     c.in-Ok.ensures.bytes c.in-Ok.ensures.ended)))
 
-pub take_line-requires-clause-number : goal.take_line-requires-clause-number
-take_line-requires-clause-number g c =
+pub take-taken-requires-clause-number : goal.take-taken-requires-clause-number
+take-taken-requires-clause-number g c =
     omega (
       arith,
-      length-feeds_most c.loop-context.invariant.seen,
+      length-feeds_most c.args.options.line_end c.loop-context.invariant.seen,
       c.loop-context.invariant.offset_is,
       c.loop-context.invariant.next_number_is,
       c.in-Some.ensures,
@@ -149,7 +152,7 @@ take_line-requires-clause-number g c =
 pub overflow_add-count : goal.overflow_add-count
 overflow_add-count g c =
     let few = near_few c.loop-context.invariant.so_far in
-    let most = length-feeds_most c.loop-context.invariant.seen in
+    let most = length-feeds_most c.args.options.line_end c.loop-context.invariant.seen in
     let one = c.from-count.ensures ∙ byte_is c.if-not-enough.to_count in
     omega (
       arith,
@@ -189,7 +192,7 @@ returns-then-not-fed-2-clause-scanned g c =
       | else-enough-via-else-enough w ↦
           absurd (let both : true ≡ false = sym enough ∙ sym enough_is ∙ w.if-enough.false in cc)
     ] in
-    let taken = c.in_ok-take_line.ensures in
+    let taken = c.in_default-taken.ensures in
     let unfed = c.if-not-fed-2.true in
     let long : 0 < length line =
     elim c.else-not-fed.branch [
@@ -201,16 +204,15 @@ returns-then-not-fed-2-clause-scanned g c =
     subst (Answers search options c.args.separator.now c.args.any c.args.name.now _ _ _ _)
     (sym (c.whole-then-not-fed-2.ensures ∙ ap (λ n. record { count = count + n; failure = None }) one))
     (near_scanned
-    (near_more so_far line taken.printed.0 to_count c.take_line.new.context is some taken.due taken.follows.well
-    taken.printed.1 taken.printed.2)
-    c.requires.context (flat_map with_feed seen ++ line)
-    (lines_of-split seen line c.loop-context.invariant.whole c.in-Ok.ensures.whole
+    (near_kept (near_more so_far line taken.printed.0 to_count c.take-taken.new.self is some taken.due
+    taken.follows.well taken.printed.1 taken.printed.2) _ c.in_ok-flush_line.ensures.kept)
+    c.requires.context (flat_map (with_end c.args.options.line_end) seen ++ line)
+    (lines_of-split c.args.options.line_end seen line c.loop-context.invariant.whole c.in-Ok.ensures.whole
     ∙ ap (λ l. seen ++ l) (one_last line long)) None _ _
-    (reads_any _ _ _ (flat_map with_feed seen ++ line)
-    (subst (λ inner. ReadsAll (g.R.Read.remaining c.args.reader.now.inner) (g.R.Read.remaining inner)
-    (flat_map with_feed seen ++ line)) (sym taken.inner)
-    (read_all _ _ _ (flat_map with_feed seen) line c.in-Ok.fed unfed c.loop-context.invariant.read
-    c.in-Ok.ensures.bytes c.in-Ok.ensures.ended))))
+    (reads_any _ _ _ (flat_map (with_end c.args.options.line_end) seen ++ line)
+    (read_all c.args.options.line_end _ _ _
+    (flat_map (with_end c.args.options.line_end) seen) line c.in-Ok.fed unfed c.loop-context.invariant.read
+    c.in-Ok.ensures.bytes c.in-Ok.ensures.ended)))
 
 pub loop-context-preserved : goal.loop-context-preserved
 loop-context-preserved g c =
@@ -240,27 +242,27 @@ loop-context-preserved g c =
       | else-enough-via-else-enough w ↦
           absurd (let both : true ≡ false = sym enough ∙ sym enough_is ∙ w.if-enough.false in cc)
     ] in
-    let taken = c.in_ok-take_line.ensures in
+    let taken = c.in_default-taken.ensures in
     let fed = c.if-not-fed-2.false in
     let one = c.from-count.ensures ∙ byte_is to_count in
-    let longer = length-feeds_push seen line in
+    let longer = length-feeds_push c.args.options.line_end seen line in
     record {
       seen = seen ++ line ∷ [];
       cs = c.loop-context.invariant.cs ++ to_count ∷ [];
       out = c.loop-context.invariant.out ++ taken.printed.0;
       so_far =
           subst (λ n. NearSoFar search options c.args.separator.now c.args.any c.args.name.now
-          (g.W.Write.contents c.args.writer.now.inner) (g.W.Write.contents c.take_line.new.writer.inner)
+          (g.W.Write.contents c.args.writer.now.inner) (g.W.Write.contents c.flush_line.new.writer.inner)
           (seen ++ line ∷ [])
           (c.loop-context.invariant.cs ++ to_count ∷ []) (c.loop-context.invariant.out ++ taken.printed.0) (count + n)
-          c.take_line.new.context) (sym one)
-          (near_more so_far line taken.printed.0 to_count c.take_line.new.context is some taken.due taken.follows.well
-          taken.printed.1 taken.printed.2);
-      whole = All-push HasNoFeed seen line c.loop-context.invariant.whole c.in-Ok.ensures.whole;
+          c.take-taken.new.self) (sym one)
+          (near_kept (near_more so_far line taken.printed.0 to_count c.take-taken.new.self is some taken.due
+          taken.follows.well taken.printed.1 taken.printed.2) _ c.in_ok-flush_line.ensures.kept);
+      whole = All-push (HasNoEnd c.args.options.line_end) seen line c.loop-context.invariant.whole
+          c.in-Ok.ensures.whole;
       read =
-          subst (λ inner. Consumes (g.R.Read.remaining c.args.reader.now.inner) (g.R.Read.remaining inner)
-          (flat_map with_feed (seen ++ line ∷ []))) (sym taken.inner)
-          (read_more _ _ _ seen line c.in-Ok.fed fed c.loop-context.invariant.read c.in-Ok.ensures.bytes);
+          read_more c.args.options.line_end _ _ _ seen line c.in-Ok.fed fed c.loop-context.invariant.read
+          c.in-Ok.ensures.bytes;
       offset_is = omega (arith, longer, c.in-Some.ensures, c.loop-context.invariant.offset_is, c.as_slice.ensures.len);
       next_offset_is =
           omega (

@@ -5,19 +5,19 @@ use Rattle.std.specs.Io.KnownBytes.{Appends}
 use Rattle.litscan.specs.Printed.{PrintsWhole, marked_from, printed_head, printed_part}
 use Rattle.litscan.proofs.printing.print_line.Goals as goal
 
--- the line behind what stands in front of it, and a line feed
-in_line : (head line : List ℕ) → (head ++ line) ++ 10 ∷ [] ≡ head ++ (line ++ 10 ∷ [])
-in_line head line = append_assoc head line (10 ∷ [])
+-- the line behind what stands in front of it, and the end
+in_line : (line_end : ℕ) (head line : List ℕ) → (head ++ line) ++ line_end ∷ [] ≡ head ++ (line ++ line_end ∷ [])
+in_line line_end head line = append_assoc head line (line_end ∷ [])
 
 pub returns-then-not-is_colored-clause-printed : goal.returns-then-not-is_colored-clause-printed
 returns-then-not-is_colored-clause-printed g c =
     let name = c.args.name.now in
     let line = c.args.line.now in
     let whole = λ (b : Bool). PrintsWhole b c.args.search.now c.args.options name c.args.number c.args.offset line
-    (printed_part c.args.options name c.args.number c.args.offset line) in
+    (printed_part c.args.options name c.args.number c.args.offset line line) in
     on_ok_weaker c.print_part.result
     (λ written. (
-      printed_part c.args.options name c.args.number c.args.offset line,
+      printed_part c.args.options name c.args.number c.args.offset line line,
       written,
       subst whole (sym (sym c.is_colored.ensures ∙ c.if-not-is_colored.true)) refl,
     ))
@@ -29,15 +29,15 @@ returns-clause-printed g c =
     let name = c.args.name.now in
     let line = c.args.line.now in
     let marked = c.in_ok-print_marked.ensures.printed in
-    let head = printed_head options name c.args.number c.args.offset in
+    let head = printed_head options name c.args.number c.args.offset line in
     let shown = marked_from options line 0 marked.0 in
     let whole = λ (b : Bool). PrintsWhole b c.args.search.now options name c.args.number c.args.offset line
-    (printed_part options name c.args.number c.args.offset shown) in
+    (printed_part options name c.args.number c.args.offset line shown) in
     on_ok_weaker c.write_all.result
     (λ written. (
-      printed_part options name c.args.number c.args.offset shown,
-      subst (Appends _ _) (in_line head shown)
-          (Appends-trans _ _ _ (head ++ shown) (10 ∷ [])
+      printed_part options name c.args.number c.args.offset line shown,
+      subst (Appends _ _) (in_line options.line_end head shown)
+          (Appends-trans _ _ _ (head ++ shown) (options.line_end ∷ [])
           (Appends-trans _ _ _ head shown c.in_ok-print_head.ensures.printed marked.2) written),
       subst whole (sym (sym c.is_colored.ensures ∙ c.if-not-is_colored.false)) (marked.0, marked.1, refl),
     ))

@@ -1,5 +1,5 @@
 use Rattle.std.proofs.Common.{◌≡◌, ◌+◌, ◌++◌, ◌∷◌, ◌∙◌, [], append-nil, append_assoc, ap, arith, refl, subst, sym}
-use Rattle.std.proofs.Common.{slice_range}
+use Rattle.std.proofs.Common.{List, ℕ, slice_range}
 use Rattle.std.proofs.KnownBytes.{Appends-nil, Appends-trans}
 use Rattle.std.proofs.lemmas.List.{flat_map_more, length_push}
 use Rattle.std.specs.Io.KnownBytes.{Appends}
@@ -31,6 +31,7 @@ loop-found-preserved g c =
     c.start.ensures.start in
     let bytes : c.of.result.now ≡ slice_range line found.start found.end =
     c.of.ensures ∙ ap (λ (s : Span). slice_range line s.start s.end) c.span.ensures.span in
+    let part = λ (at : ℕ) (these : List ℕ). printed_part options name number at these (printed_match options these) in
     let longer = length_push so_far.all found in
     let here = Appends (g.W.Write.contents c.loop-found.writer.inner)
     (g.W.Write.contents c.print_match.new.writer.inner) in
@@ -46,14 +47,10 @@ loop-found-preserved g c =
       written =
           subst (Appends _ _)
           (flat_map_more
-          (λ it. printed_part options name number (c.args.offset + it.start)
-          (printed_match options (slice_range line it.start it.end))) []
-          so_far.all found)
+          (λ it. part (c.args.offset + it.start) (slice_range line it.start it.end)) [] so_far.all found)
           (Appends-trans _ _ _ (printed_matches options name number c.args.offset line so_far.all) _ so_far.written
-          (subst (λ at. here (printed_part options name number at
-          (printed_match options (slice_range line found.start found.end)))) place
-          (subst (λ these. here (printed_part options name number (c.args.offset + c.start.result)
-          (printed_match options these))) bytes
+          (subst (λ at. here (part at (slice_range line found.start found.end))) place
+          (subst (λ these. here (part (c.args.offset + c.start.result) these)) bytes
           c.in_ok-print_match.ensures.printed)));
       counted = omega (arith, longer);
     }

@@ -26,9 +26,9 @@ returns-clause-scanned g c =
       read.0,
       read.1 ++ behind,
       record {
-        front = lines_of read.0;
+        front = lines_of c.args.options.line_end read.0;
         behind = [];
-        lines_are = sym (append-nil (lines_of read.0));
+        lines_are = sym (append-nil (lines_of c.args.options.line_end read.0));
         stops = read.3;
         counted = read.6;
         few = omega (arith, none);
@@ -36,7 +36,7 @@ returns-clause-scanned g c =
         printed = (
           read.1,
           subst (λ b. PrintsRead b c.args.search.now options c.args.separator.now c.args.any c.args.name.now
-              (lines_of read.0) [] read.1) (sym plain) read.5,
+              (lines_of c.args.options.line_end read.0) [] read.1) (sym plain) read.5,
           ap (λ count. read.1 ++ printed_behind options.listed options c.args.name.now count) read.6,
         );
       },

@@ -5,12 +5,12 @@ use Rattle.std.proofs.lemmas.List.Elements.{All-nil}
 use Rattle.std.specs.List.{count_by, flat_map}
 use Rattle.std.specs.Option.{IsSome}
 use Rattle.std.specs.declared.io.ErrorKind.TheVariants.{FileTooLarge}
-use Rattle.litscan.specs.Lines.{HasNoFeed, with_feed}
+use Rattle.litscan.specs.Lines.{HasNoEnd, with_end}
 use Rattle.litscan.specs.Inside.Passed.{lines_read}
 use Rattle.litscan.specs.Options.{is_enough, is_silent, limit_of}
-use Rattle.litscan.specs.Printed.{PrintsUnlessSilent, counts}
+use Rattle.litscan.specs.Printed.{CannotRead, PrintsUnlessSilent, ReadsTooMany, counts}
 use Rattle.litscan.specs.declared.options.Options.{Options}
-use Rattle.litscan.proofs.lemmas.Passing.{ended_so_far, failed_so_far, few_so_far, kept_so_far}
+use Rattle.litscan.proofs.lemmas.Passing.{Answers, ended_so_far, failed_so_far, few_so_far, kept_so_far}
 use Rattle.litscan.proofs.lemmas.Passing.{passed_here, read_on}
 use Rattle.litscan.proofs.lemmas.Passing.{scanned_so_far}
 use Rattle.litscan.proofs.lemmas.Printing.{prints_none}
@@ -36,7 +36,7 @@ loop-options-init g c = record {
   seen = [];
   out = [];
   so_far = record {
-    whole = All-nil HasNoFeed;
+    whole = All-nil (HasNoEnd c.args.options.line_end);
     read = Consumes-nil _;
     lines_are = refl;
     offset_is = refl;
@@ -80,8 +80,9 @@ returns-then-is_enough-clause-scanned g c =
     let enough : is_enough (limit_of c.args.options) c.loop-options.count ≡ true =
     sym (c.is_enough.ensures ∙ ap (λ limit. is_enough limit c.loop-options.count) c.limit.ensures)
     ∙ c.if-is_enough.true in
-    scanned_so_far so_far _ None
-    (reads_enough _ _ _ (flat_map with_feed c.loop-options.invariant.seen) enough so_far.read)
+    subst (Answers c.args.search.now c.args.options c.args.name.now _ _ _ _) (sym c.whole.ensures)
+    (scanned_so_far so_far _ None
+    (reads_enough _ _ _ (flat_map (with_end c.args.options.line_end) c.loop-options.invariant.seen) enough so_far.read))
 
 pub returns-in-Err-clause-scanned : goal.returns-in-Err-clause-scanned
 returns-in-Err-clause-scanned g c =
@@ -96,20 +97,26 @@ returns-in_default-clause-scanned g c =
     let no = not_yet c.args.options c.loop-options.count c.is_enough.ensures c.limit.ensures c.if-is_enough.false in
     let next = c.in-Ok.ensures.takes in
     let here = passed_here (kept_so_far c.loop-options.invariant.so_far _ c.in-Ok.ensures.kept) no next in
-    scanned_so_far here (g.R.Read.remaining c.next_line.new.reader.inner) (Some FileTooLarge)
-    (begins_with _ _ (flat_map with_feed (c.loop-options.invariant.seen ++ next.lines)) here.read)
+    subst (Answers c.args.search.now c.args.options c.args.name.now _ _ _ _) (sym c.too_large.ensures)
+    (scanned_so_far here (g.R.Read.remaining c.next_line.new.reader.inner) (Some FileTooLarge)
+    (begins_with _ _ (flat_map (with_end c.args.options.line_end) (c.loop-options.invariant.seen ++ next.lines))
+    here.read))
 
 pub returns-in_default-clause-failed : goal.returns-in_default-clause-failed
 returns-in_default-clause-failed g c =
     let no = not_yet c.args.options c.loop-options.count c.is_enough.ensures c.limit.ensures c.if-is_enough.false in
     let next = c.in-Ok.ensures.takes in
     let here = passed_here c.loop-options.invariant.so_far no next in
-    inr (
-      too_many_with _ _ _ (flat_map with_feed (c.loop-options.invariant.seen ++ next.lines))
+    subst (λ scanned. CannotRead c.next_line.new.reader.failure
+    (ReadsTooMany (g.R.Read.remaining c.args.reader.now.inner) (g.R.Read.remaining c.next_line.new.reader.inner))
+    scanned.failure) (sym c.too_large.ensures)
+    (inr (
+      too_many_with c.args.options.line_end _ _ _
+          (flat_map (with_end c.args.options.line_end) (c.loop-options.invariant.seen ++ next.lines))
           c.next_line.new.line.items _ here.read next.reads
           (omega (arith, c.in_default.ensures, here.offset_is, c.as_slice.ensures.len)),
       refl,
-    )
+    ))
 
 pub overflow_add-lines : goal.overflow_add-lines
 overflow_add-lines g c =
@@ -144,8 +151,9 @@ returns-then-not-next-clause-scanned g c =
     let number = c.loop-options.lines + (c.in-Ok.next.passed.lines + 1) in
     let prints = PrintsUnlessSilent (is_silent c.args.options) c.args.search.now c.args.options c.args.name.now number
     start in
-    ended_so_far here no _ _ line taken.0 fed number start c.in_ok-taken.taken (unfed_if fed c.if-not-next.true)
+    subst (Answers c.args.search.now c.args.options c.args.name.now _ _ _ _) (sym c.whole-then-not-next.ensures)
+    (ended_so_far here no _ _ line taken.0 fed number start c.in_ok-taken.taken (unfed_if fed c.if-not-next.true)
     (omega arith) (omega (arith, c.in-Some.ensures)) next.whole next.reads next.ended taken.1
     (subst (λ l. prints (lines_read fed l) taken.0) shown taken.2)
     (c.in_ok-taken.ensures.counted
-    ∙ ap (λ l. count_by (counts c.args.search.now c.args.options) (lines_read fed l)) shown)
+    ∙ ap (λ l. count_by (counts c.args.search.now c.args.options) (lines_read fed l)) shown))

@@ -28,6 +28,6 @@ loop-source-preserved c =
           (sym (next ∙ ap (λ source. front ++ value_of_source source ∷ []) (sym c.source-item.is)))
           (texts_more front so_far.texts (value_of_source c.source-item.result) added.0 so_far.are added.1);
       words =
-          added.2 ∙ ap (λ words. words ++ lines_of added.0) so_far.words
-          ∙ flat_map_more lines_of [] so_far.texts added.0;
+          added.2 ∙ ap (λ words. words ++ (lines_of 10) added.0) so_far.words
+          ∙ flat_map_more (lines_of 10) [] so_far.texts added.0;
     }

@@ -10,5 +10,5 @@ abbrev pub invariant-loop-source : goal.invariant-loop-source
 invariant-loop-source l = record {
   texts : List (List ℕ);
   are : AreTextsOf (map value_of_source (take l.source-index l.sources)) texts;
-  words : map (λ word. word.items) l.words.items ≡ flat_map lines_of texts;
+  words : map (λ word. word.items) l.words.items ≡ flat_map (lines_of 10) texts;
 }

@@ -1,4 +1,4 @@
-use Rattle.std.proofs.Common.{List, map, subst, ℕ}
+use Rattle.std.proofs.Common.{map, subst, ℕ}
 use Rattle.std.specs.Global.{Vec}
 use Rattle.literal_fingerprints.specs.FingerprintsValue.{AllPass}
 use Rattle.literal_fingerprints.proofs.lemmas.Skipped.{without_none}

@@ -1,10 +1,11 @@
 use Rattle.std.proofs.Common.{arith, length, ap}
-use Rattle.literal_folding.proofs.lemmas.Blocks.{part_len, part_without}
+use Rattle.literal_fingerprints.proofs.lemmas.Skipped.{part_behind}
+use Rattle.literal_search.proofs.lemmas.Prepared.{length_part}
 use Rattle.literal_folding.proofs.block.Block.give.Goals as goal
 
 pub returns-clause-ready : goal.returns-clause-ready
 returns-clause-ready c =
     let b = c.args.self.now in
-    let len = part_len b.bytes.items b.start b.folded c.requires.given (omega (arith, c.requires.within)) in
-    part_without b.bytes.items b.start b.folded c.min-count.result
+    let len = length_part b.bytes.items b.start b.folded c.requires.given (omega (arith, c.requires.within)) in
+    part_behind b.bytes.items b.start b.folded c.min-count.result
     (omega (arith, c.requires.given, len, ap length c.ready-ready.ensures))

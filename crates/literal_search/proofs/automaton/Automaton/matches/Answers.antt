@@ -13,18 +13,18 @@ returns-then-state-lt-ENDS c = λ text is.
 
 pub returns-in-Err : goal.returns-in-Err
 returns-in-Err c = λ text is.
-    let within = row_within c.args.self.now c.table-table.ensures.tables text c.args.state is c.place.result
-    c.place.ensures in
+    let within = row_within c.args.self.now c.table-table.ensures.tables text c.args.state is c.row.result
+    c.row.ensures in
     absurd (grind arith)
 
 pub returns-in-Ok : goal.returns-in-Ok
 returns-in-Ok c = λ text is.
     let t = c.args.self.now in
     let are = c.table-table.ensures.tables in
-    let within = row_within t are text c.args.state is c.place.result c.place.ensures in
+    let within = row_within t are text c.args.state is c.row.result c.row.ensures in
     let large : 2 ^ 31 ≤ c.args.state = grind arith in
-    let place_is : c.place.result ≡ c.args.state - 2 ^ 31 = grind arith in
-    let below = named_below t are text c.args.state is c.place.result large place_is in
-    let listed = listed_end t are text c.args.state is c.place.result large place_is in
-    let longest_is : c.in-Ok.longest ≡ get_or t.rows (c.place.result + t.width) 0 = grind arith in
+    let row_is : c.row.result ≡ c.args.state - 2 ^ 31 = grind arith in
+    let below = named_below t are text c.args.state is c.row.result large row_is in
+    let listed = listed_end t are text c.args.state is c.row.result large row_is in
+    let longest_is : c.in-Ok.longest ≡ get_or t.rows (c.row.result + t.width) 0 = grind arith in
     grind arith

@@ -3,16 +3,16 @@ use Rattle.literal_search.proofs.lemmas.Automaton.{row_within, steps}
 use Rattle.literal_search.proofs.lemmas.Rows.{rows_long}
 use Rattle.literal_search.proofs.automaton.Automaton.next_state.Goals as goal
 
-pub returns-then-place-table : goal.returns-then-place-table
-returns-then-place-table c = λ text is.
-    let within = row_within c.args.self.now c.table-table.ensures.tables text c.args.state is c.place-place.result
-    c.place-place.ensures in
+pub returns-then-row-table : goal.returns-then-row-table
+returns-then-row-table c = λ text is.
+    let within = row_within c.args.self.now c.table-table.ensures.tables text c.args.state is c.row-row.result
+    c.row-row.ensures in
     absurd (grind (arith, rows_long))
 
 pub returns : goal.returns
 returns c = λ text is.
     let t = c.args.self.now in
     let are = c.table-table.ensures.tables in
-    let within = row_within t are text c.args.state is c.place-place.result c.place-place.ensures in
-    steps t are text c.args.state is c.place-place.result c.place-place.ensures c.args.byte c.code_for-number.result
+    let within = row_within t are text c.args.state is c.row-row.result c.row-row.ensures in
+    steps t are text c.args.state is c.row-row.result c.row-row.ensures c.args.byte c.code_for-number.result
     (omega arith) (grind arith)

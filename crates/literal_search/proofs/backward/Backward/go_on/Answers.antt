@@ -14,12 +14,12 @@ returns-then-code-limit-clause-first c = λ search is haystack span end next to 
 
 pub returns-then-on-limit-clause-lane : goal.returns-then-on-limit-clause-lane
 returns-then-on-limit-clause-lane c = λ search is haystack span end to to_is step.
-    let row = step.lane.stands.row in
+    let row = step.lane.stands.fits in
     omega (arith, row, c.requires.limit.is, c.if-on-limit.true)
 
 pub returns-then-on-limit-clause-first : goal.returns-then-on-limit-clause-first
 returns-then-on-limit-clause-first c = λ search is haystack span end next to upto next_is to_is before step first.
-    let row = step.lane.stands.row in
+    let row = step.lane.stands.fits in
     absurd (omega (arith, row, c.requires.limit.is, c.if-on-limit.true))
 
 pub returns-clause-lane : goal.returns-clause-lane

@@ -1,7 +1,7 @@
 use Rattle.std.proofs.Common.{◌≡◌, ◌+◌, ◌-◌, ◌*◌, ◌≤◌}
 use Rattle.literal_base.specs.Occurs.{between}
 use Rattle.literal_search.specs.Inside.Backward.{ForBackward}
-use Rattle.literal_search.specs.Inside.Leftmost.{AreLanes, HaveRows, IsFirstBegun, IsLane, LiesInPart}
+use Rattle.literal_search.specs.Inside.Leftmost.{AreLanes, HaveRows, IsFirstStart, IsLane, LiesInPart}
 use Rattle.literal_search.proofs.backward.Backward.lead_in_four.Given as goal
 
 abbrev pub invariant-loop-step : goal.invariant-loop-step
@@ -23,7 +23,7 @@ invariant-loop-step l = record {
   last : ForBackward l.fn.self (λ tables. l.fn.at + 4 * l.fn.block.part + l.fn.block.lead ≡ l.fn.span.end
       → IsLane tables l.fn.haystack l.fn.span l.fn.span.end (l.fn.at + 4 * l.fn.block.part + l.step) l.fourth);
   behind : ForBackward l.fn.self (λ tables. l.fn.at + 4 * l.fn.block.part + l.fn.block.lead ≡ l.fn.span.end
-      → IsFirstBegun tables l.fn.haystack l.fn.span.end
+      → IsFirstStart tables l.fn.haystack l.fn.span.end
       (between (l.fn.at + 4 * l.fn.block.part + l.step) l.fn.span.end) l.behind);
   lies : LiesInPart (l.fn.at + 4 * l.fn.block.part + l.step) (l.fn.at + 4 * l.fn.block.part + l.fn.block.lead)
       l.behind;

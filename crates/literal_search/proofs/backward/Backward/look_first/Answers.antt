@@ -1,6 +1,6 @@
 use Rattle.std.proofs.Common.{◌+◌, ◌≤◌, ℕ, None, Option, Some, arith}
 use Rattle.literal_fingerprints.specs.declared.candidates.CandidateScan.{CandidateScan}
-use Rattle.literal_search.specs.Inside.Leftmost.{IsFront, owed_by}
+use Rattle.literal_search.specs.Inside.Leftmost.{IsProgress, owed_by}
 use Rattle.literal_search.specs.declared.leftmost.TheConstants.{OVERLAP}
 use Rattle.literal_search.proofs.lemmas.Leftmost.{none_on}
 use Rattle.literal_search.proofs.backward.Backward.look_first.Goals as goal
@@ -10,24 +10,24 @@ owed_few None = omega arith
 owed_few (Some scan) = omega arith
 
 -- the walk through the piece pays for what the scan owes
-paid : (c : goal.After-pass_on-front) (base : ℕ)
-    → IsFront c.args.self.now c.args.span (owed_by c.args.scan.now) base c.args.tally.now.scanned c.args.front
-    → IsFront c.args.self.now c.args.span 0 base c.begun_in.new.tally.scanned (record {
-      at = c.args.front.at + c.min.result;
-      credit = c.args.front.credit;
-      part = c.args.front.part;
+paid : (c : goal.After-pass_on-progress) (base : ℕ)
+    → IsProgress c.args.self.now c.args.span (owed_by c.args.scan.now) base c.args.tally.now.scanned c.args.progress
+    → IsProgress c.args.self.now c.args.span 0 base c.begun_in.new.tally.scanned (record {
+      at = c.args.progress.at + c.min.result;
+      credit = c.args.progress.credit;
+      part = c.args.progress.part;
     })
-paid c base front = record {
-  after = omega (arith, front.after);
-  inside = omega (arith, front.inside, c.min.ensures);
-  some = front.some;
-  long = front.long;
-  near = λ before. omega (arith, front.near (omega (arith, before)));
-  least = omega (arith, front.least, front.inside, c.in_ok-begun.ensures.all, c.min.ensures);
+paid c base progress = record {
+  after = omega (arith, progress.after);
+  inside = omega (arith, progress.inside, c.min.ensures);
+  some = progress.some;
+  long = progress.long;
+  near = λ before. omega (arith, progress.near (omega (arith, before)));
+  least = omega (arith, progress.least, progress.inside, c.in_ok-begun.ensures.all, c.min.ensures);
   most = omega (
     arith,
-    front.most,
-    front.inside,
+    progress.most,
+    progress.inside,
     c.in_ok-begun.ensures.all,
     c.min.ensures,
     owed_few c.args.scan.now,
@@ -37,10 +37,10 @@ paid c base front = record {
 pub returns-clause-first : goal.returns-clause-first
 returns-clause-first c = λ search is. grind (arith, none_on)
 
-pub returns-clause-front : goal.returns-clause-front
-returns-clause-front c = λ base front none. c.pass_on-front.ensures.front base (paid c base front)
+pub returns-clause-progress : goal.returns-clause-progress
+returns-clause-progress c = λ base progress none. c.pass_on-progress.ensures.progress base (paid c base progress)
 
 pub returns-clause-most : goal.returns-clause-most
-returns-clause-most c = λ base front.
-    let passed = c.pass_on-front.ensures.front base (paid c base front) in
+returns-clause-most c = λ base progress.
+    let passed = c.pass_on-progress.ensures.progress base (paid c base progress) in
     omega (arith, passed.most, passed.inside)

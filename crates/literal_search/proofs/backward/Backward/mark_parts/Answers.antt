@@ -23,10 +23,10 @@ returns-then-not-are_rows-clause-marks c = λ search is lanes marked.
     let steps = steps_in_four tables is.tables c.args.haystack.now (λ i. omega (arith, c.type_inv.haystack i))
     c.args.span c.requires.valid.in_haystack c.args.at c.args.part c.loop-step.step step (c.args.at + step)
     c.loop-step.now codes (omega arith) (omega arith) now
-    (c.code_by-first.ensures.number is.tables.classes now.first.stands.row)
-    (c.code_by-second.ensures.number is.tables.classes now.second.stands.row)
-    (c.code_by-third.ensures.number is.tables.classes now.third.stands.row)
-    (c.code_by-fourth.ensures.number is.tables.classes now.fourth.stands.row) in
+    (c.code_by-first.ensures.number is.tables.classes now.first.stands.fits)
+    (c.code_by-second.ensures.number is.tables.classes now.second.stands.fits)
+    (c.code_by-third.ensures.number is.tables.classes now.third.stands.fits)
+    (c.code_by-fourth.ensures.number is.tables.classes now.fourth.stands.fits) in
     let rows = rows_of_steps c.args.self.now search c.args.haystack.now c.args.span c.args.at c.args.part step
     c.args.limit codes c.requires.limit steps in
     false≢true (sym c.if-not-are_rows.true ∙ c.are_rows.ensures.1 rows)
@@ -59,10 +59,10 @@ loop-step-preserved c =
     let now = so_far.lanes search is lanes in
     steps_in_four (tables search) is.tables haystack (λ i. omega (arith, c.type_inv.haystack i)) span
     c.requires.valid.in_haystack at part next step (at + step) c.loop-step.now codes (omega arith) (omega arith) now
-    (c.code_by-first.ensures.number is.tables.classes now.first.stands.row)
-    (c.code_by-second.ensures.number is.tables.classes now.second.stands.row)
-    (c.code_by-third.ensures.number is.tables.classes now.third.stands.row)
-    (c.code_by-fourth.ensures.number is.tables.classes now.fourth.stands.row) in
+    (c.code_by-first.ensures.number is.tables.classes now.first.stands.fits)
+    (c.code_by-second.ensures.number is.tables.classes now.second.stands.fits)
+    (c.code_by-third.ensures.number is.tables.classes now.third.stands.fits)
+    (c.code_by-fourth.ensures.number is.tables.classes now.fourth.stands.fits) in
     let sum : c.args.tally.now.scanned + 4 * (left - next) + 1 + 1 + 1 + 1
     ≡ c.args.tally.now.scanned + 4 * (left - step) = omega (arith, before) in
     record {

@@ -1,6 +1,6 @@
 use Rattle.std.proofs.Common.{◌≡◌, ◌+◌, ◌-◌, ◌*◌, ◌≤◌, length}
 use Rattle.literal_search.specs.Inside.Backward.{ForBackward}
-use Rattle.literal_search.specs.Inside.Leftmost.{AreLanes, AreMarksBehind, HaveRows}
+use Rattle.literal_search.specs.Inside.Leftmost.{AreLanes, AreMarksAfter, HaveRows}
 use Rattle.literal_search.proofs.backward.Backward.mark_parts.Given as goal
 
 abbrev pub invariant-loop-step : goal.invariant-loop-step
@@ -13,7 +13,7 @@ invariant-loop-step l = record {
       → AreLanes tables l.fn.haystack l.fn.span l.fn.at l.fn.part l.step l.now);
   marks : ForBackward l.fn.self (λ tables. AreLanes tables l.fn.haystack l.fn.span l.fn.at l.fn.part l.fn.left
       l.fn.lanes
-      → AreMarksBehind tables l.fn.haystack l.fn.span.end l.fn.marks l.fn.at l.fn.part l.fn.left
-      → AreMarksBehind tables l.fn.haystack l.fn.span.end l.marks l.fn.at l.fn.part l.step);
+      → AreMarksAfter tables l.fn.haystack l.fn.span.end l.fn.marks l.fn.at l.fn.part l.fn.left
+      → AreMarksAfter tables l.fn.haystack l.fn.span.end l.marks l.fn.at l.fn.part l.step);
   counted : l.tally ≡ record l.fn.tally { scanned = l.fn.tally.scanned + 4 * (l.fn.left - l.step) };
 }

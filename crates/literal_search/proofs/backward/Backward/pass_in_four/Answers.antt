@@ -2,7 +2,7 @@ use Rattle.std.proofs.Common.{◌≡◌, ◌+◌, ◌-◌, ◌*◌, ◌≤◌, �
 use Rattle.std.proofs.lemmas.Bool.{false≢true}
 use Rattle.literal_base.specs.Counts.{Counts}
 use Rattle.literal_search.specs.Inside.Backward.{AreBackFor, back_tables_by}
-use Rattle.literal_search.specs.Inside.Leftmost.{AreLanes, NoneBehind}
+use Rattle.literal_search.specs.Inside.Leftmost.{AreLanes, NoneAfter}
 use Rattle.literal_search.specs.SearchValue.{SearchValue}
 use Rattle.literal_search.specs.declared.leftmost.Lanes.{Lanes}
 use Rattle.literal_search.proofs.lemmas.Leftmost.{lanes_on, none_on_four, one_more, rows_if_none, steps_in_four}
@@ -25,10 +25,10 @@ returns-then-not-are_rows c =
     let now = c.loop-step.invariant.lanes search is lanes in
     steps_in_four (tables search) is.tables c.args.haystack.now (λ i. omega (arith, c.type_inv.haystack i))
     c.args.span c.requires.valid.in_haystack c.args.at part (part - step) left (c.args.at + left) c.loop-step.now codes
-    (omega arith) (omega arith) now (c.next_at-first.ensures.number is.tables.classes now.first.stands.row)
-    (c.next_at-second.ensures.number is.tables.classes now.second.stands.row)
-    (c.next_at-third.ensures.number is.tables.classes now.third.stands.row)
-    (c.next_at-fourth.ensures.number is.tables.classes now.fourth.stands.row) in
+    (omega arith) (omega arith) now (c.next_at-first.ensures.number is.tables.classes now.first.stands.fits)
+    (c.next_at-second.ensures.number is.tables.classes now.second.stands.fits)
+    (c.next_at-third.ensures.number is.tables.classes now.third.stands.fits)
+    (c.next_at-fourth.ensures.number is.tables.classes now.fourth.stands.fits) in
     let sum : c.args.tally.now.scanned + 4 * step + 1 + 1 + 1 + 1
     ≡ c.args.tally.now.scanned + 4 * (part - (part - step - 1)) = omega arith in
     record {
@@ -73,10 +73,10 @@ loop-step-preserved c =
     let now = so_far.lanes search is lanes in
     steps_in_four (tables search) is.tables c.args.haystack.now (λ i. omega (arith, c.type_inv.haystack i))
     c.args.span c.requires.valid.in_haystack c.args.at part (part - step) left (c.args.at + left) c.loop-step.now codes
-    (omega arith) (omega arith) now (c.next_at-first.ensures.number is.tables.classes now.first.stands.row)
-    (c.next_at-second.ensures.number is.tables.classes now.second.stands.row)
-    (c.next_at-third.ensures.number is.tables.classes now.third.stands.row)
-    (c.next_at-fourth.ensures.number is.tables.classes now.fourth.stands.row) in
+    (omega arith) (omega arith) now (c.next_at-first.ensures.number is.tables.classes now.first.stands.fits)
+    (c.next_at-second.ensures.number is.tables.classes now.second.stands.fits)
+    (c.next_at-third.ensures.number is.tables.classes now.third.stands.fits)
+    (c.next_at-fourth.ensures.number is.tables.classes now.fourth.stands.fits) in
     let sum : c.args.tally.now.scanned + 4 * step + 1 + 1 + 1 + 1 ≡ c.args.tally.now.scanned + 4 * (step + 1) =
     omega arith in
     record {
@@ -86,7 +86,7 @@ loop-step-preserved c =
           (lanes_on (tables search) c.args.haystack.now c.args.span c.args.at part left c.args.limit codes small lead_on
           (steps search is lanes));
       none = λ search is lanes. subst
-          (λ n. NoneBehind (tables search) c.args.haystack.now c.args.span.end c.args.at part n) same
+          (λ n. NoneAfter (tables search) c.args.haystack.now c.args.span.end c.args.at part n) same
           (none_on_four (tables search) c.args.haystack.now c.args.span c.args.at part left c.args.limit codes small
           lead_on (steps search is lanes) (part - step) (omega arith) (omega arith) (so_far.none search is lanes));
       counted = c.next_at-fourth.ensures.ticks

@@ -1,6 +1,6 @@
 use Rattle.std.proofs.Common.{◌≡◌, ◌+◌, ◌-◌, ◌*◌}
 use Rattle.literal_search.specs.Inside.Backward.{ForBackward}
-use Rattle.literal_search.specs.Inside.Leftmost.{AreLanes, HaveRows, NoneBehind}
+use Rattle.literal_search.specs.Inside.Leftmost.{AreLanes, HaveRows, NoneAfter}
 use Rattle.literal_search.proofs.backward.Backward.pass_in_four.Given as goal
 
 abbrev pub invariant-loop-step : goal.invariant-loop-step
@@ -9,6 +9,6 @@ invariant-loop-step l = record {
   lanes : ForBackward l.fn.self (λ tables. AreLanes tables l.fn.haystack l.fn.span l.fn.at l.fn.part l.fn.part
       l.fn.lanes → AreLanes tables l.fn.haystack l.fn.span l.fn.at l.fn.part (l.fn.part - l.step) l.now);
   none : ForBackward l.fn.self (λ tables. AreLanes tables l.fn.haystack l.fn.span l.fn.at l.fn.part l.fn.part l.fn.lanes
-      → NoneBehind tables l.fn.haystack l.fn.span.end l.fn.at l.fn.part (l.fn.part - l.step));
+      → NoneAfter tables l.fn.haystack l.fn.span.end l.fn.at l.fn.part (l.fn.part - l.step));
   counted : l.tally ≡ record l.fn.tally { scanned = l.fn.tally.scanned + 4 * l.step };
 }

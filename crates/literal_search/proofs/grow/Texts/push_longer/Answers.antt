@@ -7,36 +7,36 @@ use Rattle.literal_search.proofs.grow.Texts.push_longer.Goals as goal
 pub push_if_longer-requires-clause-after : goal.push_if_longer-requires-clause-after
 push_if_longer-requires-clause-after c =
     let here = c.args.here in
-    let before = c.loop-place-test.true in
-    let after = c.loop-place.auto.place in
+    let before = c.loop-index-test.true in
+    let after = c.loop-index.auto.index in
     let read = c.index-pattern.ensures
-    ∙ c.loop-place.invariant.kept c.loop-place.place _ (omega (arith, before, c.requires.inside)) in
-    ap (λ (l : List ℕ). get_or l (c.loop-place.place - here.start) 0) c.requires.after
-    ∙ mapped_at _ c.args.lists.now.items here.start here.end c.loop-place.place c.index-pattern.result.now after before
+    ∙ c.loop-index.invariant.kept c.loop-index.index _ (omega (arith, before, c.requires.inside)) in
+    ap (λ (l : List ℕ). get_or l (c.loop-index.index - here.start) 0) c.requires.after
+    ∙ mapped_at _ c.args.lists.now.items here.start here.end c.loop-index.index c.index-pattern.result.now after before
     c.requires.inside read
 
-pub loop-place-preserved : goal.loop-place-preserved
-loop-place-preserved c =
+pub loop-index-preserved : goal.loop-index-preserved
+loop-index-preserved c =
     let old = c.args.lists.now.items in
-    let so_far = c.loop-place.invariant in
+    let so_far = c.loop-index.invariant in
     let x = c.index-pattern.result.now in
-    let place = c.loop-place.place in
-    let before = c.loop-place-test.true in
+    let index = c.loop-index.index in
+    let before = c.loop-index-test.true in
     let said = c.in_ok-push_if_longer.ensures in
-    let read = c.index-pattern.ensures ∙ so_far.kept place x (omega (arith, before, c.requires.inside)) in
+    let read = c.index-pattern.ensures ∙ so_far.kept index x (omega (arith, before, c.requires.inside)) in
     let long = so_far.long in
-    let more : length c.loop-place.lists.items ≤ length c.push_if_longer.new.lists.items =
+    let more : length c.loop-index.lists.items ≤ length c.push_if_longer.new.lists.items =
     longer_long _ _ _ said.lists in
     let n = length c.args.self.now.patterns.now in
     record {
       lists =
-          added_more _ old c.args.here.start c.args.here.end place x before c.requires.inside read
-          c.loop-place.lists.items c.push_if_longer.new.lists.items said.lists so_far.lists;
+          added_more _ old c.args.here.start c.args.here.end index x before c.requires.inside read
+          c.loop-index.lists.items c.push_if_longer.new.lists.items said.lists so_far.lists;
       whole = grind (arith, then-branch, found_yet, else-branch, found_none);
       long = omega (arith, long, more);
       kept = λ k d below. longer_kept _ _ _ said.lists k d (omega (arith, long, below)) ∙ so_far.kept k d below;
       numbers = numbers_more n _ _ _ x
           (subst (λ (m : ℕ). m < n) (sym c.index-pattern.ensures)
-          (so_far.numbers place x (omega (arith, long, before, c.requires.inside))))
+          (so_far.numbers index x (omega (arith, long, before, c.requires.inside))))
           said.lists so_far.numbers;
     }

@@ -3,5 +3,5 @@ use Rattle.literal_search.proofs.overlapping.Overlapping.find_overlapping_in.Goa
 pub invariant_of-result : goal.invariant_of-result
 invariant_of-result c =
     let lent = c.lent-lent.ensures in
-    let before = c.before_all-standing.ensures in
+    let before = c.before_all-position.ensures in
     (lent.lent, lent.is_for, c.requires, before.lies, before.stands _ lent.is_for)

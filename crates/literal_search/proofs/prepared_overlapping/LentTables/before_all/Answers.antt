@@ -1,6 +1,6 @@
 use Rattle.std.proofs.Common.{arith}
 use Rattle.literal_search.specs.Inside.LentTables.{tables_by}
-use Rattle.literal_search.proofs.lemmas.Standing.{stands_before}
+use Rattle.literal_search.proofs.lemmas.Position.{stands_before}
 use Rattle.literal_search.proofs.prepared_overlapping.LentTables.before_all.Goals as goal
 
 pub returns-clause-stands : goal.returns-clause-stands

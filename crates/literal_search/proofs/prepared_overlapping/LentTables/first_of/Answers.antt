@@ -6,21 +6,21 @@ use Rattle.literal_search.proofs.lemmas.Walk.{got_is}
 use Rattle.literal_search.proofs.prepared_overlapping.LentTables.first_of.Goals as goal
 
 pub returns-then-len-eq0-clause-prepared : goal.returns-then-len-eq0-clause-prepared
-returns-then-len-eq0-clause-prepared c = λ search are standing left.
+returns-then-len-eq0-clause-prepared c = λ search are position left.
     let p = c.args.self.now in
     let pattern_is = got_is p.ends.now _ c.get.result c.in_ok-pattern.field-0 c.get.ensures.lookup
     c.in_ok-pattern.ensures.ok_part in
     let len_is = got_is p.header.lengths.now _ c.get-2.result c.in_ok-len.field-0 c.get-2.ensures.lookup
     c.in_ok-len.ensures.ok_part ∙ ap (λ k. get_or p.header.lengths.now k 0) pattern_is in
     let inside = length_inside are c.args.haystack.now (λ k. omega (arith, c.type_inv.haystack k)) c.args.span
-    c.requires.valid c.args.here standing left in
+    c.requires.valid c.args.here position left in
     elim c.then-len-eq0.branch [
       | goal.then-len-eq0-via-then-len-eq0 w ↦ omega (arith, inside.0, len_is, w.if-len-eq0.true)
       | goal.then-len-eq0-via-else-len-eq0+then-len-here w ↦ omega (arith, inside.1, len_is, w.if-len-here.true)
     ]
 
 pub returns-clause-prepared : goal.returns-clause-prepared
-returns-clause-prepared c = λ search are standing left.
+returns-clause-prepared c = λ search are position left.
     let p = c.args.self.now in
     let pattern_is = got_is p.ends.now _ c.get.result c.in_ok-pattern.field-0 c.get.ensures.lookup
     c.in_ok-pattern.ensures.ok_part in
@@ -29,11 +29,11 @@ returns-clause-prepared c = λ search are standing left.
     subst (λ (m : MatchValue). IsNextBy (tables_by search p) c.args.haystack.now c.args.span c.args.here m
     (record {
       at = c.args.here.at;
-      place = c.args.here.place;
+      row = c.args.here.row;
       pattern = c.in_ok-pattern.field-0.now + 1;
       next = c.args.here.next + 1;
       end = c.args.here.end;
     }))
     (sym c.must.ensures)
     (next_by are c.args.haystack.now (λ k. omega (arith, c.type_inv.haystack k)) c.args.span c.requires.valid
-    c.args.here standing left _ _ pattern_is len_is)
+    c.args.here position left _ _ pattern_is len_is)

@@ -1,55 +1,55 @@
 use Rattle.std.proofs.Common.{Err, Ok, Some, arith, subst, sym}
 use Rattle.literal_search.specs.Inside.LentTables.{IsNextEnd, tables_by}
-use Rattle.literal_search.specs.declared.standing.Standing.{Standing}
+use Rattle.literal_search.specs.declared.position.Position.{Position}
 use Rattle.literal_search.proofs.lemmas.LentTables.{IsFoundThere, found_there, next_none}
 use Rattle.literal_search.proofs.prepared_overlapping.LentTables.next_end.Goals as goal
 
-pub returns-then-standing-span-clause-prepared : goal.returns-then-standing-span-clause-prepared
-returns-then-standing-span-clause-prepared c = λ search are standing.
+pub returns-then-position-span-clause-prepared : goal.returns-then-position-span-clause-prepared
+returns-then-position-span-clause-prepared c = λ search are position.
     next_none are c.args.haystack.now (λ k. omega (arith, c.type_inv.haystack k)) c.args.span c.requires.valid
-    c.args.standing standing c.if-standing.false c.if-standing-span.true
+    c.args.position position c.if-position.false c.if-position-span.true
 
 pub returns-in_err-found-clause-prepared : goal.returns-in_err-found-clause-prepared
-returns-in_err-found-clause-prepared c = λ search are standing.
-    let inside = standing.inside in
+returns-in_err-found-clause-prepared c = λ search are position.
+    let inside = position.inside in
     let is = c.table.ensures in
     absurd (found_there are c.args.haystack.now (λ k. omega (arith, c.type_inv.haystack k)) c.args.span
-    c.requires.valid c.args.standing standing c.if-standing.false (omega (arith, c.if-standing-span.false))
+    c.requires.valid c.args.position position c.if-position.false (omega (arith, c.if-position-span.false))
     c.table.result (is.table search are) is.classes is.width is.rows (Err c.in_err-found.field-0.0)
     c.in_err-found.ensures.next c.in_err-found.ensures.inside)
 
 pub returns-in_default-clause-prepared : goal.returns-in_default-clause-prepared
-returns-in_default-clause-prepared c = λ search are standing.
-    let inside = standing.inside in
+returns-in_default-clause-prepared c = λ search are position.
+    let inside = position.inside in
     let is = c.table.ensures in
-    subst (IsFoundThere (tables_by search c.args.self.now) c.args.haystack.now c.args.span c.args.standing)
+    subst (IsFoundThere (tables_by search c.args.self.now) c.args.haystack.now c.args.span c.args.position)
     c.in_default.is
     (found_there are c.args.haystack.now (λ k. omega (arith, c.type_inv.haystack k)) c.args.span c.requires.valid
-    c.args.standing standing c.if-standing.false (omega (arith, c.if-standing-span.false)) c.table.result
+    c.args.position position c.if-position.false (omega (arith, c.if-position-span.false)) c.table.result
     (is.table search are) is.classes is.width is.rows (Ok c.in_ok-found.found) c.in_ok-found.ensures.next
     c.in_ok-found.ensures.inside)
 
-pub returns-in_err-standing_at-clause-prepared : goal.returns-in_err-standing_at-clause-prepared
-returns-in_err-standing_at-clause-prepared c = λ search are standing.
-    let inside = standing.inside in
+pub returns-in_err-position_at-clause-prepared : goal.returns-in_err-position_at-clause-prepared
+returns-in_err-position_at-clause-prepared c = λ search are position.
+    let inside = position.inside in
     let is = c.table.ensures in
-    let there = subst (IsFoundThere (tables_by search c.args.self.now) c.args.haystack.now c.args.span c.args.standing)
+    let there = subst (IsFoundThere (tables_by search c.args.self.now) c.args.haystack.now c.args.span c.args.position)
     c.in-Some.is
     (found_there are c.args.haystack.now (λ k. omega (arith, c.type_inv.haystack k)) c.args.span c.requires.valid
-    c.args.standing standing c.if-standing.false (omega (arith, c.if-standing-span.false)) c.table.result
+    c.args.position position c.if-position.false (omega (arith, c.if-position-span.false)) c.table.result
     (is.table search are) is.classes is.width is.rows (Ok c.in_ok-found.found) c.in_ok-found.ensures.next
     c.in_ok-found.ensures.inside) in
-    absurd (c.in_err-standing_at.ensures.prepared search there.0 there.1)
+    absurd (c.in_err-position_at.ensures.prepared search there.0 there.1)
 
 pub returns-clause-prepared : goal.returns-clause-prepared
-returns-clause-prepared c = λ search are standing.
-    let inside = standing.inside in
+returns-clause-prepared c = λ search are position.
+    let inside = position.inside in
     let is = c.table.ensures in
-    let there = subst (IsFoundThere (tables_by search c.args.self.now) c.args.haystack.now c.args.span c.args.standing)
+    let there = subst (IsFoundThere (tables_by search c.args.self.now) c.args.haystack.now c.args.span c.args.position)
     c.in-Some.is
     (found_there are c.args.haystack.now (λ k. omega (arith, c.type_inv.haystack k)) c.args.span c.requires.valid
-    c.args.standing standing c.if-standing.false (omega (arith, c.if-standing-span.false)) c.table.result
+    c.args.position position c.if-position.false (omega (arith, c.if-position-span.false)) c.table.result
     (is.table search are) is.classes is.width is.rows (Ok c.in_ok-found.found) c.in_ok-found.ensures.next
     c.in_ok-found.ensures.inside) in
-    subst (λ (s : Standing). IsNextEnd (tables_by search c.args.self.now) c.args.haystack.now c.args.span
-    c.args.standing (Some s)) (sym (c.in_ok-standing_at.ensures.prepared search there.0 there.1)) there.2
+    subst (λ (s : Position). IsNextEnd (tables_by search c.args.self.now) c.args.haystack.now c.args.span
+    c.args.position (Some s)) (sym (c.in_ok-position_at.ensures.prepared search there.0 there.1)) there.2

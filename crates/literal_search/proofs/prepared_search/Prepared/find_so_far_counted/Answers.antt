@@ -16,7 +16,7 @@ use Rattle.literal_search.proofs.prepared_search.Prepared.find_so_far_counted.Go
 -- whether a match is told, and which
 abbrev is_found : SoFar → Type 0
 is_found (Found found) = ⊤
-is_found (NoneBefore place) = ⊥
+is_found (NoneBefore offset) = ⊥
 
 -- what was scanned for the leftmost match is what is scanned for what is told of it
 scans_so_far : (longest len at : ℕ) (leftmost : Option MatchValue) (answer : SoFar)

@@ -1,6 +1,6 @@
 use Rattle.std.proofs.Common.{◌≤◌, ℕ, ap, arith, subst, sym}
 use Rattle.literal_search.specs.Inside.Backward.{AreMarked, IsAhead}
-use Rattle.literal_search.specs.MatchesValue.{GivesMatch, MatchesValue, place_behind}
+use Rattle.literal_search.specs.MatchesValue.{GivesMatch, MatchesValue, offset_at_end}
 use Rattle.literal_search.specs.Prepared.{BackTables, IsPrepared, PreparedMatchesValue}
 use Rattle.literal_search.specs.Prepared.{back_tables_in, matches_for}
 use Rattle.literal_search.specs.declared.backward.TheConstants.{LEAST}
@@ -13,11 +13,11 @@ invariant_of-self c =
     let old = c.self.invariant.1 in
     let marks = c.next_in-answer.new.marks in
     let numbers = c.next_in-answer.new.numbers in
-    let at_is = sym c.place_after-self-inside.ensures in
+    let at_is = sym c.offset_after-self-inside.ensures in
     let longest = c.backward-backward.ensures.longest in (
       c.self.invariant.0,
       record {
-        ahead = subst (λ (n : ℕ). IsAhead n m.span c.place_after-self-inside.result marks) longest
+        ahead = subst (λ (n : ℕ). IsAhead n m.span c.offset_after-self-inside.result marks) longest
             (subst (λ (at : ℕ). IsAhead c.backward-backward.result.now.table.longest m.span at marks) at_is
             c.in-Ok.ensures.ahead);
         marked = λ short search is.
@@ -25,7 +25,7 @@ invariant_of-self c =
             (sym (c.backward-backward.ensures.tables search)) (old.marked short search is) in
             subst (λ (at : ℕ). AreMarked (back_tables_in search m.prepared.now) m.haystack.now m.span at numbers marks)
             at_is
-            (subst (λ (t : BackTables). AreMarked t m.haystack.now m.span (place_behind m.span c.in-Ok.answer) numbers
+            (subst (λ (t : BackTables). AreMarked t m.haystack.now m.span (offset_at_end m.span c.in-Ok.answer) numbers
             marks) (c.backward-backward.ensures.tables search)
             (c.in-Ok.ensures.marked search (c.backward-backward.ensures.is_for search is)
             (omega (arith, short, longest)) before));
@@ -50,11 +50,11 @@ returns-in-Ok-clause-prepared c = λ search given.
       known = c.next_in-answer.new.marks.known;
     } in v in
     subst (λ (v : PreparedMatchesValue). GivesMatch (matches_for search v) c.in-Ok.answer
-    (new_at c.place_after-self-inside.result)) c.self.view_is (record {
+    (new_at c.offset_after-self-inside.result)) c.self.view_is (record {
       leftmost = told.leftmost search (c.backward-backward.ensures.is_for search is) before;
       not_empty = some_by c.backward-backward.result.now m.span m.at c.in-Ok.answer told.lies;
       known = c.next_in-answer.new.marks.known;
-      goes_on = ap new_at c.place_after-self-inside.ensures;
+      goes_on = ap new_at c.offset_after-self-inside.ensures;
       looks = record {
         further = told.further.0;
         inside = told.further.1;

@@ -1,7 +1,7 @@
 use Rattle.std.proofs.Common.{◌∙◌, ap, arith, subst, sym, ℕ}
 use Rattle.literal_base.specs.Occurs.{between}
 use Rattle.literal_search.specs.Inside.WholeWords.{WordParts, whole_words_value}
-use Rattle.literal_search.specs.MatchesValue.{place_behind}
+use Rattle.literal_search.specs.MatchesValue.{offset_at_end}
 use Rattle.literal_search.specs.Prepared.{IsPrepared}
 use Rattle.literal_search.specs.PreparedWords.{PreparedWordMatchesValue, word_matches_by, words_for}
 use Rattle.literal_search.specs.WholeWords.{GivesWholeWord, IsFirstAlone, WholeWordMatchesValue}
@@ -30,7 +30,7 @@ returns-in-Ok-clause-prepared c = λ search given longest.
       words = words_for search v.words;
       haystack = m.haystack.now;
       span = m.span;
-      at = c.place_after-self-inside.result;
+      at = c.offset_after-self-inside.result;
       from = starts.at;
       known = starts.marks.known;
     })) c.self.view_is (record {
@@ -39,8 +39,8 @@ returns-in-Ok-clause-prepared c = λ search given longest.
           longest;
       not_empty = some_by m.words.backward m.span m.at answer told.lies;
       known = starts.marks.known;
-      goes_on = ap (λ at. new_at at starts.at) c.place_after-self-inside.ensures
-          ∙ ap (λ from. new_at (place_behind m.span answer) from) told.at;
+      goes_on = ap (λ at. new_at at starts.at) c.offset_after-self-inside.ensures
+          ∙ ap (λ from. new_at (offset_at_end m.span answer) from) told.at;
       looks = record {
         further = told.further;
         inside = told.starts.known;

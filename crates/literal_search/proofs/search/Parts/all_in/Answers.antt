@@ -4,8 +4,8 @@ use Rattle.literal_base.specs.MatchValue.{MatchValue}
 use Rattle.literal_base.specs.Occurs.{NothingOccurs, between}
 use Rattle.literal_search.specs.Inside.Backward.{AreMarked, IsPlaced, back_tables_by}
 use Rattle.literal_search.specs.Inside.Search.{IsGreedyUpTo, search_value, patterns_of}
-use Rattle.literal_search.specs.MatchesValue.{place_behind}
-use Rattle.literal_search.specs.declared.backward.GoesOn.TheVariants.{AtEnd}
+use Rattle.literal_search.specs.MatchesValue.{offset_at_end}
+use Rattle.literal_search.specs.declared.backward.Continuation.TheVariants.{AtEnd}
 use Rattle.literal_search.proofs.lemmas.GreedyIn.{leftmost_occurs, on_err, up_to_all, up_to_next}
 use Rattle.literal_search.proofs.search.Parts.all_in.Goals as goal
 
@@ -36,12 +36,12 @@ loop-found-preserved c =
     record {
       long = search rules;
       placed = subst (λ e. IsPlaced by.table.longest span e c.next_match.new.marks) (sym c.end-at.ensures.end)
-          (subst (λ (a : Option MatchValue). IsPlaced by.table.longest span (place_behind span a)
+          (subst (λ (a : Option MatchValue). IsPlaced by.table.longest span (offset_at_end span a)
           c.next_match.new.marks) is (one.placed AtEnd));
       marked = subst (λ e. AreMarked (back_tables_by (search_value p) by) haystack span e c.next_match.new.numbers
           c.next_match.new.marks) (sym c.end-at.ensures.end)
           (subst (λ (a : Option MatchValue). AreMarked (back_tables_by (search_value p) by) haystack span
-          (place_behind span a) c.next_match.new.numbers c.next_match.new.marks) is
+          (offset_at_end span a) c.next_match.new.numbers c.next_match.new.marks) is
           (one.marked (search_value p) c.backward-backward.ensures.is_for so_far.marked AtEnd));
       greedy = subst (λ (all : List MatchValue). IsGreedyUpTo (search_value p) haystack span all c.end-at.result)
           (sym c.in_ok-push-in-Ok-Some.ensures.items)

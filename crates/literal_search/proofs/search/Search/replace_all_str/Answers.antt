@@ -28,9 +28,9 @@ returns-in_err-push_str-3-clause-error c =
 
 pub returns-clause-ok : goal.returns-clause-ok
 returns-clause-ok c =
-    all_written c.loop-found.invariant.written
+    (all_written c.loop-found.invariant.written
     (omega (arith, c.if-replacements-patterns_len.false, c.patterns_len.ensures.len)) (cc) c.loop-found.yielded_by
-    c.in-None.ensures.steps _ (grind (arith, string_bytes, take_rest))
+    c.in-None.ensures.steps _ (grind (arith, string_bytes, take_rest))).0
 
 pub range-requires-clause-end_boundary : goal.range-requires-clause-end_boundary
 range-requires-clause-end_boundary c =

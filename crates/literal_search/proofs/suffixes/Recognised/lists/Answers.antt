@@ -25,8 +25,8 @@ module _ (patterns : List (List ℕ)) where
             omega (arith, ap (λ n. get_or other n 0) j_at, ap (λ n. get_or other n 0) k_at);
         each = λ k after inside.
             let is = same (k - at) (omega arith) (omega arith) in
-            let place : at + (k - at) ≡ k = omega arith in
-            let read : get_or list (k - at) 0 ≡ get_or other k 0 = sym is ∙ ap (λ n. get_or other n 0) place in
+            let index_is : at + (k - at) ≡ k = omega arith in
+            let read : get_or list (k - at) 0 ≡ get_or other k 0 = sym is ∙ ap (λ n. get_or other n 0) index_is in
             subst (λ n. IsSuffix patterns text n × (from ≤ n)) read (are.each (k - at) (omega arith) (omega arith));
         every = grind arith;
       }
@@ -72,8 +72,8 @@ module _ (patterns : List (List ℕ)) where
               (ends_moved (pattern_at patterns i) 0 ends (ends ++ list) (get_or starts i 0) (get_or starts (i + 1) 0) 0
               (get_or starts i 0) (get_or starts (i + 1) 0) (omega arith) (omega arith)
               (λ k after inside.
-              let place : 0 + k ≡ k = omega arith in
-              ap (λ n. get_or (ends ++ list) n 0) place ∙ get_or_append_left ends list 0 k (omega arith))
+              let index_is : 0 + k ≡ k = omega arith in
+              ap (λ n. get_or (ends ++ list) n 0) index_is ∙ get_or_append_left ends list 0 k (omega arith))
               (are.each i before first)))
           | inr past ↦
               let is : count ≡ i = omega arith in

@@ -2,7 +2,7 @@ use Rattle.std.proofs.Common.{◌≡◌, ◌+◌, ◌-◌, ◌∙◌, ◌++◌, 
 use Rattle.std.specs.Global.{Vec}
 use Rattle.std.proofs.lemmas.List.{length-drop, length-map, take_all}
 use Rattle.literal_base.specs.Occurs.{pattern_at}
-use Rattle.literal_search.specs.Inside.Lists.{StandsBehind, symbols_of}
+use Rattle.literal_search.specs.Inside.Lists.{HasReadText, symbols_of}
 use Rattle.literal_search.proofs.lemmas.Recognised.{ends_there, pattern_push, stands_on, symbols_are}
 use Rattle.literal_search.proofs.suffixes.Recognised.longest_suffix.Goals as goal
 use Rattle.literal_search.proofs.suffixes.Recognised.longest_suffix.Goals.{then-code-lt-ENDS, else-code-lt-ENDS}
@@ -17,14 +17,14 @@ loop-at-preserved c =
     c.index-self-pattern.is) in
     let text = take (at - c.args.from) (drop c.args.from (pattern_at (symbols_of r) c.args.pattern)) in
     let symbol = get_or r.classes.now (get_or bytes at 0) 0 in
-    let code = get_or r.rows.now (c.loop-at.place + symbol) 0 in
+    let code = get_or r.rows.now (c.loop-at.row + symbol) 0 in
     let more : text ++ symbol ∷ [] ≡ take (at + 1 - c.args.from) (drop c.args.from (pattern_at (symbols_of r)
     c.args.pattern)) =
     grind (arith, pattern_push) in
-    subst (StandsBehind r c.if-code-lt-ENDS.place) more
-    (stands_on r c.requires.recognise text c.loop-at.place symbol code c.loop-at.invariant
+    subst (HasReadText r c.if-code-lt-ENDS.row) more
+    (stands_on r c.requires.recognise text c.loop-at.row symbol code c.loop-at.invariant
     (c.requires.recognise.classes.below (get_or bytes at 0) (omega (arith, c.type_inv.bytes at))) refl
-    c.if-code-lt-ENDS.place
+    c.if-code-lt-ENDS.row
     (grind (arith, then-code-lt-ENDS, else-code-lt-ENDS)))
 
 pub returns : goal.returns

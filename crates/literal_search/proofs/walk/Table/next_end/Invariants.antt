@@ -11,7 +11,7 @@ invariant-loop-scan l = record {
   short : l.near ≤ 6 * LONGEST;
   far : l.nearest ≤ l.near;
   kept : IfSome l.scan (λ f. (0 < past_skipped l.prints) × (f ≡ scan_by l.prints));
-  comes : HasComeTo l.self l.prints l.haystack l.fn.from l.fn.span (record { place = l.from; end = l.start });
+  comes : HasComeTo l.self l.prints l.haystack l.fn.from l.fn.span (record { row = l.from; end = l.start });
   others : l.tally ≡ record l.fn.tally { scanned = l.tally.scanned };
   least : l.fn.tally.scanned + l.start ≤ l.tally.scanned + l.fn.span.start;
   most : l.tally.scanned + 3 * l.fn.span.start ≤ l.fn.tally.scanned + 3 * l.start;

@@ -7,18 +7,18 @@ use Rattle.literal_search.specs.declared.walk.Table.{Table}
 use Rattle.literal_search.proofs.lemmas.Walk.{at_start, walks_further, walks_start}
 use Rattle.literal_search.proofs.walk.Table.none_in_four.Goals as goal
 
--- one byte more of one of the spans, whose place, class and number are known
+-- one byte more of one of the spans, whose row, class and number are known
 lane : (classes rows haystack : List ℕ) (width : ℕ) → AreClasses classes width
     → (start step at : ℕ) → at ≡ start + step → at < length haystack → get_or haystack at 0 < 256
-    → (place code : ℕ) → WalksOn width rows 0 classes haystack start (start + step) place
-    → (place + width < length rows → code ≡ get_or rows (place + get_or classes (get_or haystack at 0) 0) 0)
+    → (row code : ℕ) → WalksOn width rows 0 classes haystack start (start + step) row
+    → (row + width < length rows → code ≡ get_or rows (row + get_or classes (get_or haystack at 0) 0) 0)
     → code < 2 ^ 31
     → WalksOn width rows 0 classes haystack start (start + (step + 1)) code
-lane classes rows haystack width are start step at at_is inside is_byte place code walks code_if small =
+lane classes rows haystack width are start step at at_is inside is_byte row code walks code_if small =
     let next : at + 1 ≡ start + (step + 1) = omega arith in
     subst (λ (end : ℕ). WalksOn width rows 0 classes haystack start end code) next
-    (walks_further width rows 0 classes haystack start at place
-    (subst (λ (end : ℕ). WalksOn width rows 0 classes haystack start end place) (sym at_is) walks) (omega arith) inside
+    (walks_further width rows 0 classes haystack start at row
+    (subst (λ (end : ℕ). WalksOn width rows 0 classes haystack start end row) (sym at_is) walks) (omega arith) inside
     (are.below (get_or haystack at 0) is_byte) code code_if small)
 
 -- before the first
@@ -74,10 +74,10 @@ loop-step-preserved c =
     }
 
 -- all of one of the spans
-whole : (t : Table) (haystack : List ℕ) (start start' step len place : ℕ) → start ≡ start' → step ≡ len
-    → WalksOn t.width (rows_by t) 0 (classes_by t) haystack start (start + step) place
+whole : (t : Table) (haystack : List ℕ) (start start' step len row : ℕ) → start ≡ start' → step ≡ len
+    → WalksOn t.width (rows_by t) 0 (classes_by t) haystack start (start + step) row
     → NoneEndsIn t haystack start' (start' + len)
-whole t haystack start start' step len place same all walks =
+whole t haystack start start' step len row same all walks =
     subst (λ (from : ℕ). NoneEndsIn t haystack from (from + len)) same
     (subst (λ (n : ℕ). NoneEndsIn t haystack start (start + n)) all
     (λ patterns recognises. (walks patterns recognises []

@@ -16,7 +16,7 @@ loop-at-preserved c =
     omega arith in
     record {
       within = c.if-code-limit.false;
-      walks = λ are. walks_further t.width (rows_by t) c.args.from (classes_by t) haystack start at c.loop-at.place
+      walks = λ are. walks_further t.width (rows_by t) c.args.from (classes_by t) haystack start at c.loop-at.row
           (c.loop-at.invariant.walks are) after inside
           (are.below (get_or haystack at 0) (omega (arith, c.type_inv.haystack at))) c.code_at-code.result
           (c.code_at-code.ensures.number are)
@@ -34,28 +34,28 @@ returns-then-code-eq0-clause-reaches c = λ are patterns recognises text begins.
     let at = c.loop-at.at in
     let start = c.args.span.start in
     let inside : at < length haystack = omega (arith, c.loop-at-test.true, c.requires.valid.in_haystack) in
-    subst (λ (place : ℕ). WalksOn t.width (rows_by t) c.args.from (classes_by t) haystack start (at + 1) place)
+    subst (λ (row : ℕ). WalksOn t.width (rows_by t) c.args.from (classes_by t) haystack start (at + 1) row)
     c.if-code-eq0.true
-    (walks_further t.width (rows_by t) c.args.from (classes_by t) haystack start at c.loop-at.place
+    (walks_further t.width (rows_by t) c.args.from (classes_by t) haystack start at c.loop-at.row
     (c.loop-at.invariant.walks are) c.loop-at.auto.at inside
     (are.below (get_or haystack at 0) (omega (arith, c.type_inv.haystack at))) c.code_at-code.result
     (c.code_at-code.ensures.number are)
     (omega (arith, c.if-code-eq0.true))) patterns recognises text begins
 
-pub returns-in_err-place-clause-reaches : goal.returns-in_err-place-clause-reaches
-returns-in_err-place-clause-reaches c = λ are patterns recognises text begins.
+pub returns-in_err-row-clause-reaches : goal.returns-in_err-row-clause-reaches
+returns-in_err-row-clause-reaches c = λ are patterns recognises text begins.
     let t = c.args.self.now in
     let haystack = c.args.haystack.now in
     let at = c.loop-at.at in
     let inside : at < length haystack = omega (arith, c.loop-at-test.true, c.requires.valid.in_haystack) in
     let limit_is = c.in_ok-limit.ensures.2 in
     let few = recognises.few in
-    elim (number_leads t.width (rows_by t) c.args.from (classes_by t) haystack c.args.span.start at c.loop-at.place
+    elim (number_leads t.width (rows_by t) c.args.from (classes_by t) haystack c.args.span.start at c.loop-at.row
     (c.loop-at.invariant.walks are) c.loop-at.auto.at inside
     (are.below (get_or haystack at 0) (omega (arith, c.type_inv.haystack at))) c.code_at-code.result
     (c.code_at-code.ensures.number are) patterns recognises text begins) [
       | inl one ↦ absurd (omega (arith, one.0, one.1.fits, limit_is, few, c.if-code-limit.true))
-      | inr one ↦ elim c.in_err-place.ensures [
+      | inr one ↦ elim c.in_err-row.ensures [
         | inl small ↦ absurd (omega (arith, one.0, small))
         | inr large ↦ absurd (omega (arith, one.1.fits, limit_is, few, large))
       ]
@@ -68,13 +68,13 @@ returns-then-code-limit-clause-reaches c = λ are patterns recognises text begin
     let at = c.loop-at.at in
     let start = c.args.span.start in
     let inside : at < length haystack = omega (arith, c.loop-at-test.true, c.requires.valid.in_haystack) in
-    subst (λ (place : ℕ). IsFirstEnd patterns t.width (rows_by t) recognises text (classes_by t) haystack start
-    (record { place = place; end = at + 1 })) (sym c.in_ok-place.ensures.1)
-    (reaches_end t.width (rows_by t) c.args.from (classes_by t) haystack start at c.loop-at.place
+    subst (λ (row : ℕ). IsFirstEnd patterns t.width (rows_by t) recognises text (classes_by t) haystack start
+    (record { row = row; end = at + 1 })) (sym c.in_ok-row.ensures.1)
+    (reaches_end t.width (rows_by t) c.args.from (classes_by t) haystack start at c.loop-at.row
     (c.loop-at.invariant.walks are) c.loop-at.auto.at inside
     (are.below (get_or haystack at 0) (omega (arith, c.type_inv.haystack at))) c.code_at-code.result
     (c.code_at-code.ensures.number are)
-    patterns recognises text begins c.in_ok-place.ensures.0)
+    patterns recognises text begins c.in_ok-row.ensures.0)
 
 pub returns-clause-reaches : goal.returns-clause-reaches
 returns-clause-reaches c = λ are patterns recognises text begins.

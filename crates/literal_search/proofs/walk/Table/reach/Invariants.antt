@@ -5,8 +5,8 @@ use Rattle.literal_search.proofs.walk.Table.reach.Given as goal
 
 abbrev pub invariant-loop-at : goal.invariant-loop-at
 invariant-loop-at l = record {
-  within : l.place < l.limit;
+  within : l.row < l.limit;
   walks : AreClasses (classes_by l.self) l.self.width → WalksOn l.self.width (rows_by l.self) l.fn.from
-      (classes_by l.self) l.haystack l.fn.span.start l.at l.place;
+      (classes_by l.self) l.haystack l.fn.span.start l.at l.row;
   counted : l.tally ≡ record l.initial.tally { scanned = l.initial.tally.scanned + (l.at - l.fn.span.start) };
 }

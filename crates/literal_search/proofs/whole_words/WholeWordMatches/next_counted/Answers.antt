@@ -1,7 +1,7 @@
 use Rattle.std.proofs.Common.{◌∙◌, ap, arith, subst, ℕ}
 use Rattle.literal_base.specs.Occurs.{between}
 use Rattle.literal_search.specs.Inside.WholeWords.{WordParts, owned_parts, whole_words_value}
-use Rattle.literal_search.specs.MatchesValue.{place_behind}
+use Rattle.literal_search.specs.MatchesValue.{offset_at_end}
 use Rattle.literal_search.specs.WholeWords.{GivesWholeWord, IsFirstAlone, WholeWordMatchesValue}
 use Rattle.literal_search.proofs.lemmas.Prepared.{some_by}
 use Rattle.literal_search.proofs.lemmas.WholeWords.{for_words}
@@ -22,14 +22,14 @@ returns-clause-gives c =
       from = from;
       known = starts.marks.known;
     } in v in
-    subst (λ (v : WholeWordMatchesValue). GivesWholeWord v answer (new_at c.place_after-self-inside.result starts.at))
+    subst (λ (v : WholeWordMatchesValue). GivesWholeWord v answer (new_at c.offset_after-self-inside.result starts.at))
     c.self.view_is (record {
       leftmost = for_words parts m.words c.self.invariant.1 c.self.invariant.0 (λ (p : WordParts).
           IsFirstAlone (whole_words_value p) m.haystack.now (between m.at m.span.end) answer) told.leftmost;
       not_empty = some_by m.words.backward m.span m.at answer told.lies;
       known = starts.marks.known;
-      goes_on = ap (λ at. new_at at starts.at) c.place_after-self-inside.ensures
-          ∙ ap (λ from. new_at (place_behind m.span answer) from) told.at;
+      goes_on = ap (λ at. new_at at starts.at) c.offset_after-self-inside.ensures
+          ∙ ap (λ from. new_at (offset_at_end m.span answer) from) told.at;
       looks = record {
         further = told.further;
         inside = told.starts.known;

@@ -1,19 +1,28 @@
 use Rattle.std.proofs.Common.{◌∙◌, ap, arith, rules}
 use Rattle.std.specs.List.{slice_range}
 use Rattle.literal_search.proofs.lemmas.Replaced.{replacement_at}
-use Rattle.literal_search.proofs.lemmas.ReplacedWords.{word_refused, word_written, words_written}
+use Rattle.literal_search.proofs.lemmas.ReplacedWords.{word_refused, word_refused_behind, word_written, words_written}
 use Rattle.literal_search.proofs.whole_words.WholeWords.replace_all.Goals as goal
 
 pub returns-in_err-extend_from_slice-clause-error : goal.returns-in_err-extend_from_slice-clause-error
 returns-in_err-extend_from_slice-clause-error c =
-    let refused = word_refused c.loop-found.invariant
-    (omega (arith, c.if-replacements-patterns_len.false, c.patterns_len.ensures)) c.in-Some.ensures.steps in
+    let refused = word_refused c.loop-found.invariant c.in-Some.ensures.steps
+    (omega (arith, c.if-replacements-patterns_len.false, c.patterns_len.ensures.len))
+    c.patterns_len.ensures.patterns.some (grind arith) in
     search (rules, refused)
 
 pub returns-in_err-extend_from_slice-2-clause-error : goal.returns-in_err-extend_from_slice-2-clause-error
 returns-in_err-extend_from_slice-2-clause-error c =
-    let refused = word_refused c.loop-found.invariant
-    (omega (arith, c.if-replacements-patterns_len.false, c.patterns_len.ensures)) c.in-Some.ensures.steps in
+    let refused = word_refused c.loop-found.invariant c.in-Some.ensures.steps
+    (omega (arith, c.if-replacements-patterns_len.false, c.patterns_len.ensures.len))
+    c.patterns_len.ensures.patterns.some (grind (arith, replacement_at)) in
+    search (rules, refused)
+
+pub returns-in_err-extend_from_slice-3-clause-error : goal.returns-in_err-extend_from_slice-3-clause-error
+returns-in_err-extend_from_slice-3-clause-error c =
+    let refused = word_refused_behind c.loop-found.invariant c.in-None.ensures.steps
+    (omega (arith, c.if-replacements-patterns_len.false, c.patterns_len.ensures.len))
+    (omega (arith, c.in_err-extend_from_slice-3.ensures.full, c.loop-found.text.ok)) in
     search (rules, refused)
 
 pub loop-found-preserved : goal.loop-found-preserved
@@ -27,5 +36,5 @@ loop-found-preserved c =
 pub returns-clause-ok : goal.returns-clause-ok
 returns-clause-ok c =
     words_written c.loop-found.invariant c.in-None.ensures.steps
-    (omega (arith, c.if-replacements-patterns_len.false, c.patterns_len.ensures)) _
+    (omega (arith, c.if-replacements-patterns_len.false, c.patterns_len.ensures.len)) _
     c.in_ok-extend_from_slice-3.ensures.items

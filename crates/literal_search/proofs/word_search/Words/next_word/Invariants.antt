@@ -6,7 +6,7 @@ use Rattle.literal_search.specs.declared.backward.TheConstants.{LEAST}
 use Rattle.literal_search.specs.WholeWords.{OccursAlone, ScansWordsAtMost}
 use Rattle.literal_search.proofs.word_search.Words.next_word.Given as goal
 
--- no whole word begins from the offset on before the place from which the starts go on
+-- no whole word begins from the offset on before the offset from which the starts go on
 abbrev pub invariant-loop-found : goal.invariant-loop-found
 invariant-loop-found l = record {
   starts : AreKnownStarts l.fn.self l.fn.haystack l.fn.span l.starts;

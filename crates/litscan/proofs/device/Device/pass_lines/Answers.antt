@@ -12,7 +12,7 @@ returns-in-Err-clause-takes g c =
     IfOk-weaker c.after_fill.result (λ passed. passed ≡ record { lines = 0; bytes = 0; next = None }) _
     (λ passed is. (
       [],
-      subst (λ p. Takes c.args.search.now p c.args.line.now.items []) (sym is)
-          (takes_nothing c.args.search.now c.args.line.now.items),
+      subst (λ p. Takes c.args.line_end c.args.search.now p c.args.line.now.items []) (sym is)
+          (takes_nothing c.args.line_end c.args.search.now c.args.line.now.items),
       kept,
     )) c.after_fill.ensures.none

@@ -1,0 +1,170 @@
+//! Every occurrence, one after another.
+use crate::iterators::Room;
+use crate::library::{Page, Prepared};
+use crate::{Input, Match, Span};
+use core::fmt;
+use core::iter::FusedIterator;
+
+/// The length of the parts that are searched, first and later.
+const FIRST_PART: usize = 256;
+const PART: usize = 4096;
+
+/// Where every occurrence is searched for: an array for that, and the length of the longest pattern.
+#[derive(Clone, Copy)]
+pub struct Every<'a> {
+    pub prepared: &'a Prepared,
+    pub longest: usize,
+}
+
+/// Every occurrence, of [`AhoCorasick::find_overlapping_iter`](crate::AhoCorasick::find_overlapping_iter).
+#[derive(Clone)]
+pub struct FindOverlappingIter<'a, 'h> {
+    every: Every<'a>,
+    haystack: &'h [u8],
+    walk: Walk,
+}
+
+impl<'a, 'h> FindOverlappingIter<'a, 'h> {
+    #[inline]
+    pub(crate) fn new(every: Every<'a>, input: &Input<'h>) -> Self {
+        FindOverlappingIter { every, haystack: input.haystack(), walk: Walk::new(every, input) }
+    }
+}
+
+impl Iterator for FindOverlappingIter<'_, '_> {
+    type Item = Match;
+
+    #[inline]
+    fn next(&mut self) -> Option<Match> {
+        self.walk.next(self.every, self.haystack)
+    }
+}
+
+impl FusedIterator for FindOverlappingIter<'_, '_> {}
+
+impl fmt::Debug for FindOverlappingIter<'_, '_> {
+    fn fmt(&self, f: &mut fmt::Formatter<'_>) -> fmt::Result {
+        f.debug_struct("FindOverlappingIter").field("walk", &self.walk).finish_non_exhaustive()
+    }
+}
+
+/// How far a search for every occurrence has come, of
+/// [`AhoCorasick::find_overlapping`](crate::AhoCorasick::find_overlapping).
+#[derive(Clone, Debug, Default)]
+pub struct OverlappingState {
+    walk: Option<Walk>,
+    found: Option<Match>,
+}
+
+impl OverlappingState {
+    /// The state of a search that has not begun.
+    pub fn start() -> OverlappingState {
+        OverlappingState::default()
+    }
+
+    /// The occurrence that the last call found, if it found one.
+    pub fn get_match(&self) -> Option<Match> {
+        self.found
+    }
+
+    /// Finds the next occurrence.
+    pub(crate) fn step(&mut self, every: Every<'_>, input: &Input<'_>) {
+        let walk = self.walk.get_or_insert_with(|| Walk::new(every, input));
+        self.found = walk.next(every, input.haystack());
+    }
+}
+
+/// How far a search for every occurrence has come.
+///
+/// The haystack is searched in parts. To find the occurrences that end in a part, the search begins the length of the
+/// longest pattern before it, so that occurrences from earlier parts lie whole in the searched bytes. Parts become
+/// longer than that pattern, so the time is linear in the haystack and its occurrences, however long patterns are.
+#[derive(Clone)]
+struct Walk {
+    span: Span,
+    /// Whether only occurrences at the start of the span are given.
+    is_anchored: bool,
+    /// Occurrences that end up to here are found: they are in the room, or were given before.
+    reached: usize,
+    part: usize,
+    room: Room,
+    written: usize,
+    given: usize,
+}
+
+impl Walk {
+    #[inline]
+    fn new(every: Every<'_>, input: &Input<'_>) -> Walk {
+        let (mut span, is_anchored) = (input.searched(), input.get_anchored().is_anchored());
+        if is_anchored {
+            span.end = span.end.min(span.start.saturating_add(every.longest));
+        }
+        Walk { span, is_anchored, reached: span.start, part: FIRST_PART, room: Room::new(), written: 0, given: 0 }
+    }
+
+    #[inline]
+    fn next(&mut self, every: Every<'_>, haystack: &[u8]) -> Option<Match> {
+        loop {
+            while self.given == self.written {
+                if self.reached == self.span.end {
+                    return None;
+                }
+                self.turn(every, haystack);
+            }
+            let found = self.room.places()[self.given];
+            self.given += 1;
+            if !self.is_anchored || found.start() == self.span.start {
+                return Some(found);
+            }
+        }
+    }
+
+    /// Finds the occurrences that end in the next part, or in as much of it as a page has room for.
+    fn turn(&mut self, every: Every<'_>, haystack: &[u8]) {
+        if self.written > 0 && !self.room.is_allocated() {
+            self.room.grow();
+        }
+        let start = (self.reached + 1).saturating_sub(every.longest.max(1)).max(self.span.start);
+        let end = self.reached.saturating_add(self.part).min(self.span.end);
+        let page = self.fill(every, haystack, Span { start, end });
+        let found = &mut self.room.places()[..page.written];
+        put_longest_first(found);
+        self.given = found.partition_point(|it| it.end() <= self.reached);
+        // (more than the page has may end where its last one does)
+        self.reached = if page.is_last == 1 { end } else { page.next - 1 };
+        self.written = found.partition_point(|it| it.end() <= self.reached);
+        self.part = (2 * self.part).min(PART.max(every.longest.saturating_mul(4)));
+    }
+
+    /// Finds a page of occurrences in a span. It grows until it has all, or goes farther beyond `reached` than the span
+    /// begins before it, so that not much is read again.
+    fn fill(&mut self, every: Every<'_>, haystack: &[u8], span: Span) -> Page {
+        let least = 2 * self.reached - span.start;
+        loop {
+            let page = every.prepared.overlapping_page(haystack, span, self.room.places());
+            if page.is_last == 1 || least + 1 < page.next {
+                return page;
+            }
+            self.room.grow();
+        }
+    }
+}
+
+/// Sorts matches with one end: the longest first, and of equal patterns the first in the list.
+fn put_longest_first(matches: &mut [Match]) {
+    let mut at = 0;
+    while at < matches.len() {
+        let end = matches[at].end();
+        let count = matches[at..].iter().take_while(|it| it.end() == end).count();
+        if count > 1 {
+            matches[at..at + count].sort_unstable_by_key(|it| (it.start(), it.pattern()));
+        }
+        at += count;
+    }
+}
+
+impl fmt::Debug for Walk {
+    fn fmt(&self, f: &mut fmt::Formatter<'_>) -> fmt::Result {
+        f.debug_struct("Walk").field("span", &self.span).field("reached", &self.reached).finish_non_exhaustive()
+    }
+}

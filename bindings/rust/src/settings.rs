@@ -1,0 +1,43 @@
+//! Anchored searches, and settings that change no match.
+
+/// Whether a match has to begin where the search begins.
+#[derive(Clone, Copy, Debug, PartialEq, Eq, Hash)]
+#[non_exhaustive]
+pub enum Anchored {
+    /// It may begin anywhere in the span.
+    No,
+    /// It begins at the start of the span.
+    Yes,
+}
+
+impl Anchored {
+    /// Whether it is [`Anchored::Yes`].
+    pub fn is_anchored(&self) -> bool {
+        *self == Anchored::Yes
+    }
+}
+
+/// Which searches a searcher makes. It makes all of them as fast with each value; a search that the value leaves out is
+/// a [`MatchError`](crate::MatchError).
+#[derive(Clone, Copy, Debug, Default, PartialEq, Eq)]
+pub enum StartKind {
+    /// Anchored and unanchored ones.
+    Both,
+    /// Only unanchored ones.
+    #[default]
+    Unanchored,
+    /// Only anchored ones.
+    Anchored,
+}
+
+/// The automata of the original. There is one search here, so this changes nothing.
+#[derive(Clone, Copy, Debug, PartialEq, Eq)]
+#[non_exhaustive]
+pub enum AhoCorasickKind {
+    /// States with lists of transitions.
+    NoncontiguousNFA,
+    /// The same in one array.
+    ContiguousNFA,
+    /// One look-up for each byte, as in this crate.
+    DFA,
+}

@@ -1,0 +1,134 @@
+//! The patterns that have standard matches.
+//!
+//! Call a pattern late if no pattern ends in it before its last byte. Where a pattern that is not late occurs, another
+//! one ends earlier, so only late patterns have standard matches. Let M be the occurrence that ends first, and the
+//! longest of those. An occurrence of a late pattern that begins before M ends after M, so M lies in it and ends before
+//! its last byte: a contradiction. For the same reason, one that begins where M does also ends there. So the standard
+//! match is the leftmost match of the late patterns, by either leftmost kind.
+use crate::error::Cause;
+use crate::pieces::{with_room, Pieces};
+use alloc::vec::Vec;
+
+/// The length up to which patterns are looked for in others.
+const LONGEST: usize = 64;
+
+/// The numbers of the late patterns, and perhaps of some in which only patterns of more than 64 bytes end early. Of
+/// equal patterns, it has the first. The order is that of the patterns.
+pub fn likely_late(pieces: &Pieces) -> Result<Vec<u32>, Cause> {
+    let mut numbers = sorted(pieces)?;
+    keep_without_prefix(pieces, &mut numbers);
+    let is_late = Known::new(pieces, &numbers)?.are_late()?;
+    let mut late = is_late.iter();
+    numbers.retain(|_| late.next() == Some(&true));
+    Ok(numbers)
+}
+
+/// The numbers of all patterns, in the order of the patterns, and equal ones in the order of numbers.
+fn sorted(pieces: &Pieces) -> Result<Vec<u32>, Cause> {
+    // (the first eight bytes as a number decide most comparisons)
+    let mut keyed = with_room(pieces.len())?;
+    keyed.extend((0..pieces.len() as u32).map(|it| (head(pieces.get(it)), it)));
+    keyed.sort_unstable_by(|(head, number), (other_head, other)| {
+        let by_rest = || (pieces.get(*number), number).cmp(&(pieces.get(*other), other));
+        head.cmp(other_head).then_with(by_rest)
+    });
+    let mut numbers = with_room(keyed.len())?;
+    numbers.extend(keyed.iter().map(|(_, number)| *number));
+    Ok(numbers)
+}
+
+/// The first eight bytes of a text as a number.
+fn head(text: &[u8]) -> u64 {
+    let mut bytes = [0; 8];
+    let len = text.len().min(8);
+    bytes[..len].copy_from_slice(&text[..len]);
+    u64::from_be_bytes(bytes)
+}
+
+/// Removes the patterns that begin with another one, and of equal ones all but the first.
+fn keep_without_prefix(pieces: &Pieces, sorted: &mut Vec<u32>) {
+    // (the patterns that begin with one follow it)
+    let mut last: Option<&[u8]> = None;
+    sorted.retain(|it| {
+        let pattern = pieces.get(*it);
+        let is_kept = last.map_or(true, |prefix| !pattern.starts_with(prefix));
+        last = if is_kept { Some(pattern) } else { last };
+        is_kept
+    });
+}
+
+/// Sorted patterns, none of which begins with another one.
+struct Known<'p> {
+    pieces: &'p Pieces,
+    sorted: &'p [u32],
+    /// How many bytes of each pattern are hashed.
+    width: usize,
+    /// A bit for each hash: whether a pattern has it.
+    hashes: Vec<u64>,
+}
+
+impl<'p> Known<'p> {
+    fn new(pieces: &'p Pieces, sorted: &'p [u32]) -> Result<Known<'p>, Cause> {
+        let words = (sorted.len() / 4).next_power_of_two().clamp(4, 1 << 16);
+        let mut hashes = with_room(words)?;
+        hashes.resize(words, 0);
+        let mut known = Known { pieces, sorted, width: pieces.shortest.min(4), hashes };
+        for number in sorted {
+            let (word, bit) = known.place(pieces.get(*number));
+            known.hashes[word] |= bit;
+        }
+        Ok(known)
+    }
+
+    /// Where the bit of a text is.
+    #[inline]
+    fn place(&self, text: &[u8]) -> (usize, u64) {
+        let head = text[..self.width].iter().fold(0, |number, byte| number << 8 | u32::from(*byte));
+        let hash = head.wrapping_mul(0x9E37_79B1) as usize >> 8;
+        (hash / 64 % self.hashes.len(), 1 << (hash % 64))
+    }
+
+    fn are_late(&self) -> Result<Vec<bool>, Cause> {
+        let mut are_late = with_room(self.sorted.len())?;
+        are_late.extend(self.sorted.iter().map(|it| {
+            let pattern = self.pieces.get(*it);
+            let early = &pattern[..pattern.len() - 1];
+            (1..early.len()).all(|start| !self.begins(&early[start..]))
+        }));
+        Ok(are_late)
+    }
+
+    /// Whether a text begins with a pattern of at most 64 bytes.
+    #[inline]
+    fn begins(&self, text: &[u8]) -> bool {
+        if text.len() < self.width {
+            return false;
+        }
+        let (word, bit) = self.place(text);
+        self.hashes[word] & bit != 0 && self.is_known(&text[..text.len().min(LONGEST)])
+    }
+
+    /// Whether the text begins with a pattern: then none lies between that and the text in the order.
+    fn is_known(&self, text: &[u8]) -> bool {
+        let after = self.sorted.partition_point(|it| self.pieces.get(*it) <= text);
+        after.checked_sub(1).map_or(false, |it| text.starts_with(self.pieces.get(self.sorted[it])))
+    }
+}
+
+#[cfg(test)]
+mod tests {
+    use super::*;
+
+    #[test]
+    fn those_that_end_early_are_left_out() {
+        for (patterns, late) in [
+            (&["b", "ab", "abc", "cab", "bb", "b"][..], &[0, 1, 3][..]),
+            (&["cab", "xcaby", "xcab", "xxcab", "cabbage"], &[0, 2, 3]),
+            (&["abcde", "xabcdey", "yxabcde", "abcdf"], &[0, 2, 3]),
+        ] {
+            let mut numbers = likely_late(&Pieces::new(patterns).unwrap()).unwrap();
+            numbers.sort_unstable();
+            assert_eq!(numbers, late, "{patterns:?}");
+        }
+    }
+}

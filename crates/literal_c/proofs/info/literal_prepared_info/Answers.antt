@@ -1,0 +1,26 @@
+use Rattle.std.proofs.Common.{◌∙◌, ap, arith, inl, inr, sym}
+use Rattle.literal_c.specs.Inside.Info.{shortest_in}
+use Rattle.literal_c.proofs.lemmas.Info.{many_lengths, shortest-lengths}
+use Rattle.literal_c.proofs.info.literal_prepared_info.Goals as goal
+
+pub returns-clause-leftmost : goal.returns-clause-leftmost
+returns-clause-leftmost c = λ search is. record {
+  number = sym (many_lengths c.args.prepared.now search.query.patterns is.whole.parts.parts.fits is.lengths);
+  shortest = c.shortest.ensures ∙ (ap shortest_in is.lengths ∙ shortest-lengths search.query.patterns);
+  longest = is.tables.longest;
+  kind = elim c.in-Ok.ensures [
+    | inl leftmost ↦ leftmost.0
+    | inr lists ↦ absurd (omega (arith, lists.1.parts.version_is, is.whole.parts.parts.version_is))
+  ];
+}
+
+pub returns-clause-overlapping : goal.returns-clause-overlapping
+returns-clause-overlapping c = λ search is. record {
+  number = sym (many_lengths c.args.prepared.now search.patterns is.whole.lists.parts.fits is.lengths);
+  shortest = c.shortest.ensures ∙ (ap shortest_in is.lengths ∙ shortest-lengths search.patterns);
+  longest = is.longest;
+  kind = elim c.in-Ok.ensures [
+    | inl leftmost ↦ absurd (omega (arith, leftmost.1.parts.version_is, is.whole.lists.parts.version_is))
+    | inr lists ↦ lists.0
+  ];
+}

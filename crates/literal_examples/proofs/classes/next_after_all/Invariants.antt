@@ -1,5 +1,0 @@
-use Rattle.std.proofs.Common.{length}
-use Rattle.literal_examples.proofs.classes.next_after_all.Given as goal
-
-abbrev pub decreases-loop : goal.decreases-loop
-decreases-loop l = length l.bytes

@@ -1,0 +1,2 @@
+-- Lemmas that several proofs share, by topic.
+pub mod Shared

@@ -1,0 +1,205 @@
+//! Texts that may continue, and texts that are read in pieces.
+use crate::made::{first_of, longest_of};
+use literal_search::{Match, MatchKind, ReplaceStreamError, Search, SoFar, Span, Tally};
+use std::alloc::Global;
+use std::io::{self, ErrorKind, Read, Write};
+use std::process::Abort;
+use std::test::Fail;
+
+/// A reader of bytes in memory, a few per call, that fails once this many bytes are left.
+#[derive(Drop)]
+struct Pieces<'t> {
+    rest: &'t [u8],
+    step: usize,
+    failing: Option<usize>,
+}
+
+impl Read for Pieces<'_> {
+    fn read(&mut self, buf: &mut [u8]) -> io::Result<usize> {
+        if self.failing == Some(self.rest.len()) {
+            return Err(io::Error::from(ErrorKind::TimedOut));
+        }
+        let count = self.rest.len().min(self.step).min(buf.len());
+        let (first, behind) = self.rest.split_at(count);
+        buf[..count].copy_from_slice(first);
+        self.rest = behind;
+        Ok(count)
+    }
+}
+
+#[test]
+fn example_of_a_stream(rt: HostRuntime) -> Result<(), Fail> {
+    let alloc = rt.alloc();
+    let words = [b"password".as_slice(), b"secret"];
+    let search = Search::new(alloc, MatchKind::LeftmostFirst, true, words)?;
+    let mut matches = search.find_stream(alloc, b"My Secret.".as_slice())?;
+    let found = matches.next().ok_or("nothing is found")??;
+    assert!(rt; found.pattern().as_usize() == 1 && found.range() == (3..9));
+    Ok(())
+}
+
+#[test]
+fn tells_what_is_known_so_far(rt: HostRuntime) -> Result<(), Fail> {
+    let search = longest_of(rt.alloc(), &[b"ab", b"abcd"])?;
+    assert!(rt; search.max_pattern_len() == 4);
+    assert!(rt; search.find_so_far(b"xab", 0) == SoFar::NoneBefore(0));
+    assert!(rt; search.find_so_far(b"xabc", 1) == SoFar::NoneBefore(1));
+    let found = Match::must(0, Span { start: 1, end: 3 });
+    assert!(rt; search.find_so_far(b"xabcx", 0) == SoFar::Found(found));
+    let tally = &mut Tally::new();
+    assert!(rt; search.find_so_far_counted(b"xabc", 1, tally) == SoFar::NoneBefore(1));
+    assert!(rt; search.find_so_far_counted(b"xabcx", 0, tally) == SoFar::Found(found));
+    Ok(())
+}
+
+/// Pieces of this many bytes give the matches of the whole text.
+fn assert_same(rt: &impl Abort, alloc: Global, search: &Search, text: &[u8], step: usize) {
+    let pieces = Pieces {
+        rest: text,
+        step,
+        failing: None,
+    };
+    let Ok(mut matches) = search.find_stream(alloc, pieces) else {
+        return assert!(rt; false);
+    };
+    for found in search.find_iter(text) {
+        let Some(Ok(same)) = matches.next() else {
+            return assert!(rt; false);
+        };
+        assert!(rt; same == found);
+    }
+    assert!(rt; matches.next().is_none() && matches.next().is_none());
+}
+
+#[test]
+fn pieces_make_no_difference(rt: HostRuntime) -> Result<(), Fail> {
+    let search = longest_of(rt.alloc(), &[b"abcd", b"bc", b"da"])?;
+    let mut text = Vec::new(rt.alloc());
+    for _ in 0..7_000 {
+        text.extend_from_slice(b"xabcdabxbcda")?;
+    }
+    for step in [1, 7, 4_096, 65_536, 1_000_000] {
+        assert_same(&rt, rt.alloc(), &search, &text, step);
+    }
+    Ok(())
+}
+
+/// With few bytes read, so that it would read more before it searches.
+#[test]
+fn known_matches_come_before_an_error(rt: HostRuntime) -> Result<(), Fail> {
+    let search = first_of(rt.alloc(), &[b"abcd", b"bc"])?;
+    let pieces = Pieces {
+        rest: b"xabcdabc?",
+        step: 3,
+        failing: Some(3),
+    };
+    let mut matches = search.find_stream(rt.alloc(), pieces)?;
+    let first = Match::must(0, Span { start: 1, end: 5 });
+    assert!(rt; matches.next().ok_or("nothing is found")?? == first);
+    assert!(rt; is_error_of_kind(matches.next(), ErrorKind::TimedOut));
+    assert!(rt; matches.next().is_none() && matches.next().is_none());
+    Ok(())
+}
+
+/// Whether the answer is an error of this kind.
+fn is_error_of_kind(answer: Option<io::Result<Match>>, kind: ErrorKind) -> bool {
+    match answer {
+        Some(Err(error)) => error.kind() == kind,
+        _ => false,
+    }
+}
+
+#[test]
+fn example_of_replacing_in_a_stream(rt: HostRuntime) -> Result<(), Fail> {
+    let alloc = rt.alloc();
+    let words = [b"apple".as_slice(), b"maple"];
+    let search = Search::new(alloc, MatchKind::LeftmostFirst, true, words)?;
+    let (mut text, mut written) = (b"Maple or apple?".as_slice(), Vec::new(alloc));
+    search.replace_stream(alloc, &mut text, &mut written, &[b"pear", b"oak"])?;
+    assert!(rt; written.as_slice() == b"oak or pear?".as_slice());
+    let too_few = search.replace_stream(alloc, &mut text, &mut written, &[b"pear"]);
+    assert!(rt; matches!(too_few, Err(ReplaceStreamError::NotOneForEach)));
+    Ok(())
+}
+
+/// With pieces of this many bytes, the text with its matches replaced is written.
+fn assert_written(
+    rt: &impl Abort,
+    alloc: Global,
+    search: &Search,
+    text: &[u8],
+    step: usize,
+) -> Result<(), Fail> {
+    let replacements = [b"<1>".as_slice(), b"", b"x"];
+    let mut pieces = Pieces {
+        rest: text,
+        step,
+        failing: None,
+    };
+    let mut written = Vec::new(alloc);
+    search.replace_stream(alloc, &mut pieces, &mut written, &replacements)?;
+    assert!(rt; written.as_slice() == search.replace_all(alloc, text, &replacements)?.as_slice());
+    Ok(())
+}
+
+#[test]
+fn pieces_are_written_as_the_whole(rt: HostRuntime) -> Result<(), Fail> {
+    let search = longest_of(rt.alloc(), &[b"abcd", b"bc", b"da"])?;
+    let mut text = Vec::new(rt.alloc());
+    for _ in 0..9_000 {
+        text.extend_from_slice(b"xabcdabxbcda")?;
+    }
+    for step in [1, 7, 4_096, 1_000_000] {
+        assert_written(&rt, rt.alloc(), &search, &text, step)?;
+    }
+    Ok(())
+}
+
+/// A writer with room for a few bytes.
+#[derive(Drop)]
+struct Narrow {
+    room: usize,
+}
+
+impl Write for Narrow {
+    fn write(&mut self, buf: &[u8]) -> io::Result<usize> {
+        let count = self.room.min(buf.len());
+        self.room -= count;
+        Ok(count)
+    }
+
+    fn flush(&mut self) -> io::Result<()> {
+        Ok(())
+    }
+}
+
+#[test]
+fn what_is_known_is_written_before_an_error(rt: HostRuntime) -> Result<(), Fail> {
+    let alloc = rt.alloc();
+    let search = first_of(alloc, &[b"abcd", b"bc"])?;
+    let mut pieces = Pieces {
+        rest: b"xabcdabc?",
+        step: 3,
+        failing: Some(3),
+    };
+    let mut written = Vec::new(alloc);
+    let failed = search.replace_stream(alloc, &mut pieces, &mut written, &[b"12", b"3"]);
+    let Err(ReplaceStreamError::ReadFailed(error)) = failed else {
+        return Err(Fail::from("no such error"));
+    };
+    assert!(rt; error.kind() == ErrorKind::TimedOut);
+    assert!(rt; written.as_slice() == b"x12".as_slice());
+    Ok(())
+}
+
+#[test]
+fn a_failed_write_ends_it(rt: HostRuntime) -> Result<(), Fail> {
+    let (alloc, search) = (rt.alloc(), first_of(rt.alloc(), &[b"abcd", b"bc"])?);
+    let (mut text, mut narrow) = (b"xabcd".as_slice(), Narrow { room: 2 });
+    let full = search.replace_stream(alloc, &mut text, &mut narrow, &[b"12", b"3"]);
+    let Err(ReplaceStreamError::WriteFailed(error)) = full else {
+        return Err(Fail::from("no such error"));
+    };
+    assert!(rt; error.kind() == ErrorKind::WriteZero);
+    Ok(())
+}
