@@ -1,11 +1,10 @@
 //! Skips many lines without a match at once: those before the first match in the buffered bytes.
-ghost use Rattle.std.specs.Prelude.{◌≡◌, ◌⊎◌, ◌≢◌, ◌+◌, ◌-◌, ◌<◌, ◌≤◌, ◌==◌, ◌^◌, None, ℕ, IfOk, MatchOption, ⊤};
-ghost use Rattle.std.specs.Prelude.{length, slice_index, take};
+ghost use Rattle.std.specs.Prelude.{◌≡◌, ◌⊎◌, ◌≢◌, ◌+◌, ◌-◌, ◌<◌, ◌≤◌, ◌==◌, ◌^◌, None, ℕ, MatchOption, ⊤};
+ghost use Rattle.std.specs.Prelude.{length, slice_index};
 ghost use Rattle.std.specs.List.{count_by};
-ghost use Rattle.litscan.specs.Inside.Passed.{IsAhead, LiesInLine, Takes, len_of};
+ghost use Rattle.litscan.specs.Inside.Passed.{IsAhead, LiesInLine, len_of};
 
 use literal_search::{Match, Search};
-use std::alloc::AllocError;
 
 /// The ends of lines are counted in parts of this many bytes, so that each count fits into a byte.
 const PART: usize = 255;
@@ -22,17 +21,6 @@ pub struct Passed {
 }
 
 impl Passed {
-    /// No line was skipped.
-    pub fn none() -> Passed
-        ensures { result ≡ record { lines = 0; bytes = 0; next = None } }
-    {
-        Passed {
-            lines: 0,
-            bytes: 0,
-            next: None,
-        }
-    }
-
     /// The length of these lines in bytes, with the next one and its end.
     pub fn len(&self) -> usize
         requires { len_of self.now < 2 ^ 64 }
@@ -45,28 +33,8 @@ impl Passed {
     }
 }
 
-/// The lines before the first match in buffered bytes. The line of the match is copied into `line`, if it is there as a
-/// whole.
-pub fn take_ahead(
-    line_end: u8,
-    search: &Search,
-    bytes: &[u8],
-    line: &mut Vec<u8>,
-) -> Result<Passed, AllocError>
-    ensures takes { IfOk result (λ passed.
-        Takes line_end search.now passed line.new.items (take (len_of passed) bytes.now)) }
-    ensures inside { IfOk result (λ passed. len_of passed ≤ length bytes.now) }
-{
-    let passed = look_ahead(line_end, search, bytes);
-    if let Some(len) = passed.next {
-        line.clear();
-        line.extend_from_slice(&bytes[passed.bytes..passed.bytes + len])?;
-    }
-    Ok(passed)
-}
-
-/// The same, without the copy.
-fn look_ahead(line_end: u8, search: &Search, bytes: &[u8]) -> Passed
+/// The lines before the first match in buffered bytes, and the line of that match if it is there as a whole.
+pub fn look_ahead(line_end: u8, search: &Search, bytes: &[u8]) -> Passed
     ensures { IsAhead line_end search.now bytes.now result }
 {
     let Some(found) = search.find(bytes) else {
