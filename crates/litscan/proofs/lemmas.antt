@@ -9,4 +9,5 @@ pub mod Printing
 pub mod Reading
 pub mod Refused
 pub mod Request
+pub mod Vectors
 pub mod Zero

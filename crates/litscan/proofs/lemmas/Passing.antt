@@ -400,8 +400,11 @@ module _ (search : SearchValue) (options : Options) (name : List ℕ) (lines off
           some = λ found. absurd (cc);
           counted = sym (none_of takes);
           stops = λ n before not_yet below. stops_nowhere (limit_of options) before _
-              (omega (arith, none_of takes,
-              sum_by-take-le (λ line. cond {A = ℕ} (counts search options line) 1 0) takes.lines n)) not_yet;
+              (omega (
+                arith,
+                none_of takes,
+                sum_by-take-le (λ line. cond {A = ℕ} (counts search options line) 1 0) takes.lines n,
+              )) not_yet;
           out = [];
           writes = Appends-nil written;
           printed = none_printed options.line_end search options name kept (is_silent options) (lines + 1) offset
@@ -444,8 +447,11 @@ module _ (search : SearchValue) (options : Options) (name : List ℕ) (lines off
               let few : n ≤ length front = omega (arith, below, length_push front line) in
               stops_nowhere (limit_of options) before _
               (ap (count_by (counts search options)) (take-append-le n front (line ∷ []) few)
-              ∙ omega (arith, none_of takes,
-              sum_by-take-le (λ l. cond {A = ℕ} (counts search options l) 1 0) front n)) not_yet;
+              ∙ omega (
+                arith,
+                none_of takes,
+                sum_by-take-le (λ l. cond {A = ℕ} (counts search options l) 1 0) front n,
+              )) not_yet;
           out = out;
           writes = writes;
           printed = prints_more search options name (is_silent options) (lines + 1) offset number start front

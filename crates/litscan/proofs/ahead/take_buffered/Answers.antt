@@ -10,7 +10,7 @@ returns-in_default-clause-takes g c =
     subst (λ ahead. TakesLines c.args.search.now c.args.options c.args.name.now c.args.lines c.args.offset ahead
     (take ahead.bytes c.args.bytes.now) written written) (sym c.none.ensures)
     (nothing_taken c.args.search.now c.args.options c.args.name.now c.args.lines c.args.offset written
-          c.ranges.offset.fits)
+    c.ranges.offset.fits)
 
 pub returns-in_default-next-clause-takes : goal.returns-in_default-next-clause-takes
 returns-in_default-next-clause-takes g c =
