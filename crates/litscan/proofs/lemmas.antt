@@ -4,6 +4,7 @@ pub mod Groups
 pub mod Lines
 pub mod Marks
 pub mod Near
+pub mod Others
 pub mod Passing
 pub mod Printing
 pub mod Reading

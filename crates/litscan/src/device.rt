@@ -11,7 +11,7 @@ ghost use Rattle.literal_base.specs.declared.packed.MatchKind.TheVariants.{Leftm
 ghost use Rattle.litscan.specs.Fault.{IsReadFault, IsWriteFault, StopsRead, write_fault};
 ghost use Rattle.litscan.specs.Lines.{HasNoEnd, with_end};
 ghost use Rattle.litscan.specs.Scans.{BeginsWithoutZero, HasZero};
-ghost use Rattle.litscan.specs.Inside.Passed.{TakesLines};
+ghost use Rattle.litscan.specs.Inside.Passed.{PassesOthers, TakesLines};
 ghost use Rattle.litscan.specs.declared.fault.Fault.TheVariants.{OutOfMemory, ReadFailed};
 
 use crate::ahead::{Ahead, take_buffered};
@@ -108,7 +108,8 @@ impl<R: BufRead> Device<R> {
     }
 
     /// Handles the lines of the buffered bytes before the first match and, if it is buffered as a whole, the line of
-    /// that match. The bytes begin at this offset of the text, after so many lines.
+    /// that match. The bytes begin at this offset of the text, after so many lines. With `-v` the lines before the match
+    /// are printed.
     pub fn take_lines<W: Write>(
         &mut self,
         search: &Search,
@@ -119,7 +120,7 @@ impl<R: BufRead> Device<R> {
         writer: &mut Device<W>,
     ) -> Result<Ahead, Fault>
         requires longest { search.now.query.kind ≡ LeftmostLongest }
-        requires kept { options.others ≡ false }
+        requires plain { PassesOthers options }
         requires few { lines ≤ offset }
         ensures takes { IfOk result (λ ahead. (text : List ℕ)
             × Consumes (R.remaining self.old.inner) (R.remaining self.new.inner) text

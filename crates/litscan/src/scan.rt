@@ -10,7 +10,7 @@ ghost use Rattle.litscan.specs.Asked.{one_asked};
 ghost use Rattle.litscan.specs.Fault.{IsWriteFault, StopsRead};
 ghost use Rattle.litscan.specs.declared.fault.Fault.TheVariants.{ReadFailed};
 ghost use Rattle.litscan.specs.Lines.{lines_of};
-ghost use Rattle.litscan.specs.Inside.Passed.{HasWord, TakesLines, lines_read};
+ghost use Rattle.litscan.specs.Inside.Passed.{HasWord, PassesOthers, TakesLines, lines_read};
 ghost use Rattle.litscan.specs.Options.{is_silent, limit_of};
 ghost use Rattle.litscan.specs.Printed.{CannotRead, PrintsUnlessSilent, Reads, ReadsTooMany, StopsAtEnough, StopsScan};
 ghost use Rattle.litscan.specs.Printed.{are_enough, counts, printed_behind, printed_listed};
@@ -188,7 +188,8 @@ fn scan_lines<R: BufRead + ReadsAhead, W: Write>(
     }
 }
 
-/// Handles whole lines of the buffered bytes, up to the first one with a match. With `-v`, it handles none.
+/// Handles whole lines of the buffered bytes, up to the first one with a match; none with `-v` and a limit, or if
+/// anything is printed before lines.
 fn take_ahead<R: BufRead + ReadsAhead, W: Write>(
     search: &Search,
     options: Options,
@@ -208,11 +209,18 @@ fn take_ahead<R: BufRead + ReadsAhead, W: Write>(
         → Keeps (W.contents writer.old.inner) (W.contents writer.new.inner)) }
     ensures error { IfErr result (StopsRead reader.new.failure writer.new.failure) }
 {
-    if options.others {
+    if !passes_others(options) {
         return Ok(Ahead::none());
     }
     flush_before_wait(options.line_end, reader, writer)?;
     reader.take_lines(search, options, name, lines, offset, writer)
+}
+
+/// Whether lines without a word may be handled together: none is selected, or all are printed as they are.
+fn passes_others(options: Options) -> bool
+    ensures { result ≡ true → PassesOthers options }
+{
+    !options.others || options.limit().is_none() && !options.has_head()
 }
 
 /// The result of a scan after this fault: a failed read ends the scan, and any other fault is passed on.
@@ -309,7 +317,7 @@ pub fn take_line<W: Write>(
 }
 
 /// Whether no line leads to output: lines are not requested, or only the matches of lines without a match.
-fn prints_nothing(options: Options) -> bool
+pub fn prints_nothing(options: Options) -> bool
     ensures { result ≡ (is_silent options || (options.only && options.others)) }
 {
     options.is_silent() || options.only && options.others

@@ -8,7 +8,7 @@ use Rattle.std.proofs.Common.{slice_range, subst, sym, take, ◌∙◌}
 use Rattle.std.proofs.lemmas.Bool.{cond-false, cond-true, eq-eqb, ne_eqb}
 use Rattle.std.proofs.lemmas.List.{drop-append-le, flat_map_more, get_or-append-add, get_or-drop}
 use Rattle.std.proofs.lemmas.List.{get_or-take, get_or_default, length-drop, length-take-le, length_push, take_more}
-use Rattle.std.proofs.lemmas.List.{drop-take, take-take}
+use Rattle.std.proofs.lemmas.List.{drop-take, take_all, take-take}
 use Rattle.std.proofs.lemmas.List.{take-append-le}
 use Rattle.std.proofs.lemmas.List.Elements.{All-append, All-cons, All-head, All-nil, All-push, All-tail}
 use Rattle.std.proofs.lemmas.List.Sums.{count_by-le-length, sum_by-append, sum_by-cons, sum_by-take-le}
@@ -22,7 +22,7 @@ use Rattle.literal_search.specs.SearchValue.{SearchValue}
 use Rattle.litscan.specs.Asked.{one_asked}
 use Rattle.litscan.specs.Lines.{HasNoEnd, lines_of, with_end}
 use Rattle.litscan.specs.Inside.Passed.{ArePassed, HasNoWord, HasWord, IsAhead, LiesInLine, Takes, lines_read}
-use Rattle.litscan.specs.Inside.Passed.{TakesLines, len_of, len_with, next_of}
+use Rattle.litscan.specs.Inside.Passed.{PassesOthers, TakesLines, len_of, len_with, next_of, prints_others}
 use Rattle.litscan.specs.declared.ahead.Ahead.{Ahead}
 use Rattle.litscan.specs.Options.{is_enough, is_silent, limit_of}
 use Rattle.litscan.specs.Printed.{PrintsLine, PrintsUnlessSilent, Reads, StopsAtEnough, are_enough, counts}
@@ -33,6 +33,7 @@ use Rattle.std.specs.Option.{IfSome, IsSome, OnSome, is_some}
 use Rattle.std.specs.declared.io.ErrorKind.{ErrorKind}
 use Rattle.litscan.proofs.lemmas.Asked.{asked_if}
 use Rattle.litscan.proofs.lemmas.Lines.{Other, lines_are, lines_of-feeds, lines_of-split}
+use Rattle.litscan.proofs.lemmas.Others.{others_counted, others_printed}
 use Rattle.litscan.proofs.lemmas.Printing.{count-append, length-feeds_push, prints_more, prints_none}
 use Rattle.litscan.proofs.lemmas.Reading.{length-feeds_most, length-lines_read, read_all, read_more, reads_any}
 use Rattle.litscan.proofs.lemmas.Reading.{reads_front, stops_later}
@@ -273,40 +274,6 @@ module _ (line_end : ℕ) where
                 (subst (λ n. OccursIn bytes found.pattern n) at occurs))
                 (omega (arith, lies.inside, whole, long, before, is))
 
-    module _ (options : Options) (name : List ℕ) (kept : options.others ≡ false) where
-      none_asked : (line : List ℕ) → HasNoWord search line → counts search options line ≡ false
-      none_asked line none =
-          cond-false options.others _ _ kept
-          ∙ (elim (cases_Bool (one_asked search options line)) [
-            | inl told ↦ let is = asked_if search options line told in absurd (none is.0 is.1 is.2.occurs)
-            | inr other ↦ other
-          ])
-
-      -- lines in which no word occurs do not count
-      pub none_counts : (lines : List (List ℕ))
-          → All (HasNoWord search) lines
-          → count_by (counts search options) lines ≡ 0
-      none_counts [] none = refl
-      none_counts (line ∷ more) none =
-          let word = none_asked line (All-head (HasNoWord search) line more none) in
-          let first = cond-false {A = ℕ} (counts search options line) 1 0 word in
-          let rest = none_counts more (All-tail (HasNoWord search) line more none) in
-          omega (arith, first, rest, sum_by-cons (λ l. cond (counts search options l) 1 0) line more)
-
-      -- and nothing is printed of them
-      pub none_printed : (silent : Bool) (number offset : ℕ) (lines : List (List ℕ))
-          → All (HasNoWord search) lines
-          → PrintsUnlessSilent silent search options name number offset lines []
-      none_printed true number offset lines none = refl
-      none_printed false number offset [] none = refl
-      none_printed false number offset (line ∷ more) none =
-          let rest = All-tail (HasNoWord search) line more none in
-          ([], [], first, none_printed false (number + 1) (offset + length line + 1) more rest, refl)
-        where
-          first : PrintsLine (counts search options line) search options name number offset line []
-          first = subst (λ b. PrintsLine b search options name number offset line [])
-              (sym (none_asked line (All-head (HasNoWord search) line more none))) refl
-
 -- what is not enough is not enough with no more lines
 stops_nowhere : (limit : Option ℕ) (before more : ℕ) → more ≡ 0 → is_enough limit before ≡ false
     → is_enough limit (before + more) ≡ false
@@ -354,12 +321,53 @@ nothing_taken search options name lines offset written small = record {
   not_enough = λ found before not_yet. stops_nowhere (limit_of options) before 0 refl not_yet;
 }
 
+len_more : (bytes : ℕ) (next : Option ℕ) → bytes ≤ len_with bytes next
+len_more bytes None = omega arith
+len_more bytes (Some len) = omega arith
+
 module _ (search : SearchValue) (options : Options) (name : List ℕ) (lines offset : ℕ) (bytes : List ℕ)
-    (passed : Passed) (kept : options.others ≡ false)
+    (passed : Passed) (plain : PassesOthers options)
   where
-    none_of : {line text : List ℕ} → (takes : Takes options.line_end search passed line text)
-        → count_by (counts search options) takes.lines ≡ 0
-    none_of takes = none_counts options.line_end search options name kept takes.lines takes.are.none
+    counted_front : {line text : List ℕ} → (takes : Takes options.line_end search passed line text) → (others : ℕ)
+        → others ≡ cond options.others passed.lines 0 → others ≡ count_by (counts search options) takes.lines
+    counted_front takes others is =
+        is ∙ ap (λ n. cond options.others n 0) takes.count
+        ∙ sym (others_counted search options takes.lines takes.are.none)
+
+    printed_front_lines : {line text : List ℕ} → (takes : Takes options.line_end search passed line text)
+        → (front : List ℕ) → front ≡ flat_map (with_end options.line_end) takes.lines
+        → PrintsUnlessSilent (is_silent options) search options name (lines + 1) offset takes.lines
+        (cond (prints_others options) front [])
+    printed_front_lines takes front is =
+        subst (λ bytes. PrintsUnlessSilent (is_silent options) search options name (lines + 1) offset takes.lines
+        (cond (prints_others options) bytes [])) (sym is)
+        (others_printed search options name plain takes.lines takes.are.none (lines + 1) offset)
+
+    stops_front : {line text : List ℕ} → (takes : Takes options.line_end search passed line text) → (n before : ℕ)
+        → is_enough (limit_of options) before ≡ false
+        → is_enough (limit_of options) (before + count_by (counts search options) (take n takes.lines)) ≡ false
+    stops_front takes n before not_yet =
+        elim (cases_Bool options.others) [
+          | inl others ↦
+              ap (λ limit. is_enough limit (before + count_by (counts search options) (take n takes.lines)))
+              (plain others).0
+          | inr kept ↦
+              let none = others_counted search options takes.lines takes.are.none
+              ∙ cond-false options.others (length takes.lines) 0 kept in
+              stops_nowhere (limit_of options) before _
+              (omega (arith, none, sum_by-take-le (λ line. cond {A = ℕ} (counts search options line) 1 0) takes.lines n))
+              not_yet
+        ]
+
+    -- the lines without a word are the first bytes
+    front_of : {line : List ℕ} → (takes : Takes options.line_end search passed line (take (len_of passed) bytes))
+        → take passed.bytes bytes ≡ flat_map (with_end options.line_end) takes.lines
+    front_of {line} takes =
+        let front = flat_map (with_end options.line_end) takes.lines in
+        let all : take passed.bytes (take (len_of passed) bytes) ≡ front =
+        ap (λ n. take n (take (len_of passed) bytes)) takes.bytes ∙ ap (take (length front)) takes.text_is
+        ∙ take-append_seam front (next_of options.line_end passed.next line) in
+        sym (take-take passed.bytes (len_of passed) bytes (len_more passed.bytes passed.next)) ∙ all
 
     -- there are no more lines than bytes, and the line behind them is there
     pub with_line : (len : ℕ) → passed.next ≡ Some len → IsAhead options.line_end search bytes passed
@@ -379,50 +387,51 @@ module _ (search : SearchValue) (options : Options) (name : List ℕ) (lines off
         × HasWord search (slice_range bytes passed.bytes (passed.bytes + len)))) is takes.next).2
 
     -- lines without a word are handled
-    pub lines_taken : (written : Option (List ℕ)) → offset + length bytes < 2 ^ 64 → passed.next ≡ None
-        → IsAhead options.line_end search bytes passed
+    pub lines_taken : (others : ℕ) → others ≡ cond options.others passed.lines 0 → (written now : Option (List ℕ))
+        → Appends written now (cond (prints_others options) (take passed.bytes bytes) [])
+        → offset + length bytes < 2 ^ 64 → passed.next ≡ None → IsAhead options.line_end search bytes passed
         → TakesLines search options name lines offset
-        (record { lines = passed.lines; bytes = passed.bytes; count = 0; found = false }) (take passed.bytes bytes)
-        written written
-    lines_taken written small is ahead =
+        (record { lines = passed.lines; bytes = passed.bytes; count = others; found = false }) (take passed.bytes bytes)
+        written now
+    lines_taken others others_are written now writes small is ahead =
         let takes = ahead.1 in
-        let text_is : take passed.bytes bytes ≡ flat_map (with_end options.line_end) takes.lines =
-        ap (λ next. take (len_with passed.bytes next) bytes) (sym is) ∙ takes.text_is
-        ∙ ap (λ next. flat_map (with_end options.line_end) takes.lines ++ next_of options.line_end next ahead.0) is
-        ∙ append-nil (flat_map (with_end options.line_end) takes.lines) in
+        let text_is = front_of takes in
+        let counted = counted_front takes others others_are in
+        let inside = subst (λ next. len_with passed.bytes next ≤ length bytes) is ahead.2 in
         record {
           taken = takes.lines;
           whole = takes.are.whole;
           text_is = text_is;
           lines_are = takes.count;
           bytes_are = takes.bytes ∙ ap (λ (l : List ℕ). length l) (sym text_is);
-          small = omega (arith, small, subst (λ next. len_with passed.bytes next ≤ length bytes) is ahead.2);
+          small = omega (arith, small, inside);
           some = λ found. absurd (cc);
-          counted = sym (none_of takes);
-          stops = λ n before not_yet below. stops_nowhere (limit_of options) before _
-              (omega (
-                arith,
-                none_of takes,
-                sum_by-take-le (λ line. cond {A = ℕ} (counts search options line) 1 0) takes.lines n,
-              )) not_yet;
-          out = [];
-          writes = Appends-nil written;
-          printed = none_printed options.line_end search options name kept (is_silent options) (lines + 1) offset
-              takes.lines takes.are.none;
-          not_enough = λ found before not_yet. stops_nowhere (limit_of options) before 0 refl not_yet;
+          counted = counted;
+          stops = λ n before not_yet below. stops_front takes n before not_yet;
+          out = cond (prints_others options) (take passed.bytes bytes) [];
+          writes = writes;
+          printed = printed_front_lines takes (take passed.bytes bytes) text_is;
+          not_enough = λ found before not_yet.
+              let all = take_all (length takes.lines) takes.lines (omega arith) in
+              ap (λ n. is_enough (limit_of options) (before + n))
+              (counted ∙ ap (count_by (counts search options)) (sym all))
+              ∙ stops_front takes (length takes.lines) before not_yet;
         }
 
     -- and the line behind them, of which this was printed
-    pub line_taken : (len : ℕ) (line : List ℕ) → passed.next ≡ Some len
+    pub line_taken : (others : ℕ) → others ≡ cond options.others passed.lines 0 → (written between : Option (List ℕ))
+        → Appends written between (cond (prints_others options) (take passed.bytes bytes) [])
+        → (len : ℕ) (line : List ℕ) → passed.next ≡ Some len
         → Takes options.line_end search passed line (take (len_of passed) bytes)
         → (number start count : ℕ) → number ≡ lines + passed.lines + 1 → start ≡ offset + passed.bytes
-        → offset + (passed.bytes + len + 1) < 2 ^ 64 → count ≡ count_by (counts search options) (line ∷ []) → (written now : Option (List ℕ)) (out : List ℕ)
-        → Appends written now out
+        → offset + (passed.bytes + len + 1) < 2 ^ 64 → count ≡ count_by (counts search options) (line ∷ [])
+        → (now : Option (List ℕ)) (out : List ℕ) → Appends between now out
         → PrintsUnlessSilent (is_silent options) search options name number start (line ∷ []) out
         → TakesLines search options name lines offset
-        (record { lines = passed.lines + 1; bytes = passed.bytes + len + 1; count = count; found = true })
+        (record { lines = passed.lines + 1; bytes = passed.bytes + len + 1; count = others + count; found = true })
         (take (passed.bytes + len + 1) bytes) written now
-    line_taken len line is takes number start count number_is start_is small counted written now out writes printed =
+    line_taken others others_are written between before len line is takes number start count number_is start_is small
+        counted now out writes printed =
         let front = takes.lines in
         let word = subst (λ next. IfSome next
         (λ n. (n ≡ length line) × HasNoEnd options.line_end line × HasWord search line)) is takes.next in
@@ -431,6 +440,7 @@ module _ (search : SearchValue) (options : Options) (name : List ℕ) (lines off
         ∙ ap (λ next. flat_map (with_end options.line_end) front ++ next_of options.line_end next line) is
         ∙ flat_map_more (with_end options.line_end) [] front line in
         let size = length-feeds_push options.line_end front line in
+        let shown = cond (prints_others options) (take passed.bytes bytes) [] in
         record {
           taken = front ++ line ∷ [];
           whole = All-push (HasNoEnd options.line_end) front line takes.are.whole word.1;
@@ -439,25 +449,17 @@ module _ (search : SearchValue) (options : Options) (name : List ℕ) (lines off
           bytes_are = omega (arith, takes.bytes, word.0, size, ap (λ (l : List ℕ). length l) text_is);
           small = small;
           some = λ found. omega arith;
-          counted = omega (
-            arith,
-            count-append (counts search options) front (line ∷ []) 0 count (sym (none_of takes)) counted,
-          );
+          counted = count-append (counts search options) front (line ∷ []) others count
+              (counted_front takes others others_are) counted;
           stops = λ n before not_yet below.
               let few : n ≤ length front = omega (arith, below, length_push front line) in
-              stops_nowhere (limit_of options) before _
-              (ap (count_by (counts search options)) (take-append-le n front (line ∷ []) few)
-              ∙ omega (
-                arith,
-                none_of takes,
-                sum_by-take-le (λ l. cond {A = ℕ} (counts search options l) 1 0) front n,
-              )) not_yet;
-          out = out;
-          writes = writes;
+              ap (λ l. is_enough (limit_of options) (before + count_by (counts search options) l))
+              (take-append-le n front (line ∷ []) few) ∙ stops_front takes n before not_yet;
+          out = shown ++ out;
+          writes = Appends-trans written between now shown out before writes;
           printed = prints_more search options name (is_silent options) (lines + 1) offset number start front
-              (line ∷ []) [] out (omega (arith, number_is, takes.count)) (omega (arith, start_is, takes.bytes))
-              (none_printed options.line_end search options name kept (is_silent options) (lines + 1) offset front
-              takes.are.none) printed;
+              (line ∷ []) shown out (omega (arith, number_is, takes.count)) (omega (arith, start_is, takes.bytes))
+              (printed_front_lines takes (take passed.bytes bytes) (front_of takes)) printed;
           not_enough = λ found. absurd (cc);
         }
 

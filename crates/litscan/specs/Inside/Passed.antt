@@ -1,6 +1,6 @@
 -- Lines that are skipped, and text that is read as a line.
 use Rattle.std.specs.Prelude.{◌≡◌, ◌≢◌, ◌+◌, ◌<◌, ◌≤◌, ◌^◌, ◌++◌, ℕ, Bool, List, [], ◌∷◌, None, Option, Some, IfSome}
-use Rattle.std.specs.Prelude.{false, if◌then◌else◌, length, slice_index, take, true}
+use Rattle.std.specs.Prelude.{◌&&◌, ◌||◌, false, if◌then◌else◌, length, not, slice_index, take, true}
 use Rattle.std.specs.List.{All, count_by, flat_map}
 use Rattle.std.specs.Io.KnownBytes.{Appends}
 use Rattle.literal_base.specs.MatchValue.{MatchValue}
@@ -8,7 +8,7 @@ use Rattle.literal_base.specs.Occurs.{NothingOccurs, Occurs, whole_of}
 use Rattle.literal_search.specs.SearchValue.{SearchValue}
 use Rattle.litscan.specs.Lines.{HasNoEnd, last_line, with_end}
 use Rattle.litscan.specs.Options.{is_enough, is_silent, limit_of}
-use Rattle.litscan.specs.Printed.{PrintsUnlessSilent, counts}
+use Rattle.litscan.specs.Printed.{PrintsUnlessSilent, counts, has_head}
 use Rattle.litscan.specs.declared.ahead.Ahead.{Ahead}
 use Rattle.litscan.specs.declared.options.Options.{Options}
 use Rattle.litscan.specs.declared.passed.Passed.{Passed}
@@ -66,6 +66,14 @@ IsAhead line_end search bytes passed =
 abbrev pub lines_read : Bool → List ℕ → List (List ℕ)
 lines_read true line = line ∷ []
 lines_read false last = last_line last
+
+-- if lines without a word are selected, there is no limit, and nothing is printed before a line
+abbrev pub PassesOthers : Options → Type 0
+PassesOthers options = options.others ≡ true → (limit_of options ≡ None) × (has_head options ≡ false)
+
+-- whether lines without a word are printed
+abbrev pub prints_others : Options → Bool
+prints_others options = options.others && not (is_silent options || (options.only && options.others))
 
 -- a text consists of whole lines that were handled. They follow so many lines, and begin at this offset of the whole
 -- text. Fewer of them, from the first on, are not enough where the lines before them are not

@@ -4,8 +4,8 @@ use Rattle.litscan.specs.Inside.Passed.{TakesLines}
 use Rattle.litscan.proofs.lemmas.Passing.{nothing_taken}
 use Rattle.litscan.proofs.scan.take_ahead.Goals as goal
 
-pub returns-then-options-clause-takes : goal.returns-then-options-clause-takes
-returns-then-options-clause-takes g c =
+pub returns-then-not-passes_others-clause-takes : goal.returns-then-not-passes_others-clause-takes
+returns-then-not-passes_others-clause-takes g c =
     let written = g.W.Write.contents c.args.writer.now.inner in (
       [],
       Consumes-nil _,
