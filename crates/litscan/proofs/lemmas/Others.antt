@@ -1,6 +1,6 @@
 -- Lines without a word: how many are selected, and what is printed of them. For `ahead`.
-use Rattle.std.proofs.Common.{◌≡◌, ◌+◌, ◌-◌, ◌≤◌, ◌&&◌, ◌||◌, ◌++◌, ◌∙◌, ℕ, Bool, List, [], ◌∷◌, true, false, not, None, Option}
-use Rattle.std.proofs.Common.{ap, arith, cond, inl, inr, length, refl, slice_range, subst, sym}
+use Rattle.std.proofs.Common.{◌≡◌, ◌+◌, ◌-◌, ◌≤◌, ◌&&◌, ◌||◌, ◌++◌, ◌∙◌, ℕ, Bool, List, [], ◌∷◌, true, false, not}
+use Rattle.std.proofs.Common.{ap, arith, cond, inl, inr, length, refl, subst, sym}
 use Rattle.std.proofs.lemmas.Bool.{cases_Bool, cond-false, cond-true}
 use Rattle.std.proofs.lemmas.List.{take_all}
 use Rattle.std.proofs.lemmas.List.Elements.{All-head, All-tail}
@@ -12,7 +12,7 @@ use Rattle.litscan.specs.Inside.Passed.{HasNoWord, PassesOthers, prints_others}
 use Rattle.litscan.specs.Lines.{with_end}
 use Rattle.litscan.specs.Options.{is_colored, is_silent}
 use Rattle.litscan.specs.Printed.{PrintsFound, PrintsLine, PrintsLines, PrintsUnlessSilent, PrintsWhole, counts, has_head}
-use Rattle.litscan.specs.Printed.{printed_front, printed_head, printed_part, printed_tab}
+use Rattle.litscan.specs.Printed.{printed_part, printed_tab}
 use Rattle.litscan.specs.declared.options.Options.{Options}
 use Rattle.litscan.proofs.lemmas.Asked.{asked_if}
 

@@ -14,24 +14,22 @@ use Rattle.std.proofs.lemmas.List.Elements.{All-append, All-cons, All-head, All-
 use Rattle.std.proofs.lemmas.List.Sums.{count_by-le-length, sum_by-append, sum_by-cons, sum_by-take-le}
 use Rattle.std.proofs.Math.Seq.{drop-append-add, drop-append_seam, take-add, take-append-add, take-append_seam}
 use Rattle.std.proofs.lemmas.Grind.{flat_map-append}
-use Rattle.std.specs.Io.KnownBytes.{Appends, Consumes, IsAtEnd, Keeps, prepend_known}
+use Rattle.std.specs.Io.KnownBytes.{Appends, Consumes, IsAtEnd, Keeps}
 use Rattle.std.specs.List.{All, count_by, flat_map}
 use Rattle.literal_base.specs.Occurs.{Occurs, case_folded, pattern_at, whole_of}
 use Rattle.literal_base.specs.MatchValue.{MatchValue}
 use Rattle.literal_search.specs.SearchValue.{SearchValue}
-use Rattle.litscan.specs.Asked.{one_asked}
 use Rattle.litscan.specs.Lines.{HasNoEnd, lines_of, with_end}
 use Rattle.litscan.specs.Inside.Passed.{ArePassed, HasNoWord, HasWord, IsAhead, LiesInLine, Takes, lines_read}
 use Rattle.litscan.specs.Inside.Passed.{PassesOthers, TakesLines, len_of, len_with, next_of, prints_others}
 use Rattle.litscan.specs.declared.ahead.Ahead.{Ahead}
 use Rattle.litscan.specs.Options.{is_enough, is_silent, limit_of}
-use Rattle.litscan.specs.Printed.{PrintsLine, PrintsUnlessSilent, Reads, StopsAtEnough, are_enough, counts}
+use Rattle.litscan.specs.Printed.{PrintsUnlessSilent, Reads, StopsAtEnough, are_enough, counts}
 use Rattle.litscan.specs.declared.options.Options.{Options}
 use Rattle.litscan.specs.declared.passed.Passed.{Passed}
 use Rattle.litscan.specs.declared.scan.Scanned.{Scanned}
-use Rattle.std.specs.Option.{IfSome, IsSome, OnSome, is_some}
+use Rattle.std.specs.Option.{IfSome, IsSome, OnSome}
 use Rattle.std.specs.declared.io.ErrorKind.{ErrorKind}
-use Rattle.litscan.proofs.lemmas.Asked.{asked_if}
 use Rattle.litscan.proofs.lemmas.Lines.{Other, lines_are, lines_of-feeds, lines_of-split}
 use Rattle.litscan.proofs.lemmas.Others.{others_counted, others_printed}
 use Rattle.litscan.proofs.lemmas.Printing.{count-append, length-feeds_push, prints_more, prints_none}

@@ -1,6 +1,6 @@
 -- Lines that are skipped, and text that is read as a line.
 use Rattle.std.specs.Prelude.{◌≡◌, ◌≢◌, ◌+◌, ◌<◌, ◌≤◌, ◌^◌, ◌++◌, ℕ, Bool, List, [], ◌∷◌, None, Option, Some, IfSome}
-use Rattle.std.specs.Prelude.{◌&&◌, ◌||◌, false, if◌then◌else◌, length, not, slice_index, take, true}
+use Rattle.std.specs.Prelude.{◌&&◌, ◌||◌, false, length, not, slice_index, take, true}
 use Rattle.std.specs.List.{All, count_by, flat_map}
 use Rattle.std.specs.Io.KnownBytes.{Appends}
 use Rattle.literal_base.specs.MatchValue.{MatchValue}

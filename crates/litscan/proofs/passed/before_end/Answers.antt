@@ -1,4 +1,4 @@
-use Rattle.std.proofs.Common.{◌+◌, ◌∙◌, ap, arith, get_or, sym}
+use Rattle.std.proofs.Common.{◌∙◌, arith, sym}
 use Rattle.std.proofs.lemmas.Simd.{get_or-chunk, length-chunk}
 use Rattle.litscan.proofs.lemmas.Vectors.{first_few, first_lane, no_lane, none_before}
 use Rattle.litscan.proofs.passed.before_end.Goals as goal

@@ -1,4 +1,4 @@
-use Rattle.std.proofs.Common.{◌≡◌, ◌+◌, ◌++◌, None, Some, ◌∷◌, [], Bool, ℕ, Option, false, not, true}
+use Rattle.std.proofs.Common.{◌≡◌, ◌+◌, ◌++◌, None, Some, ◌∷◌, [], Bool, ℕ, Option, false, true}
 use Rattle.std.proofs.Common.{refl, inr, sym, ap, subst, ◌∙◌, arith}
 use Rattle.std.proofs.KnownBytes.{Appends-nil, Consumes-nil}
 use Rattle.std.proofs.lemmas.List.Elements.{All-nil}
