@@ -108,8 +108,8 @@ impl<R: BufRead> Device<R> {
     }
 
     /// Handles the lines of the buffered bytes before the first match and, if it is buffered as a whole, the line of
-    /// that match. The bytes begin at this offset of the text, after so many lines. With `-v` it prints the lines before
-    /// the match.
+    /// that match. The bytes begin at this offset of the text, after so many lines. With `-v` the lines before the
+    /// match are printed.
     pub fn take_lines<W: Write>(
         &mut self,
         search: &Search,

@@ -11,8 +11,8 @@ use Rattle.litscan.specs.Asked.{AreMatches, one_asked}
 use Rattle.litscan.specs.Inside.Passed.{HasNoWord, PassesOthers, prints_others}
 use Rattle.litscan.specs.Lines.{with_end}
 use Rattle.litscan.specs.Options.{is_colored, is_silent}
-use Rattle.litscan.specs.Printed.{PrintsFound, PrintsLine, PrintsLines, PrintsUnlessSilent, PrintsWhole, counts, has_head}
-use Rattle.litscan.specs.Printed.{printed_part, printed_tab}
+use Rattle.litscan.specs.Printed.{PrintsFound, PrintsLine, PrintsLines, PrintsUnlessSilent, PrintsWhole, counts}
+use Rattle.litscan.specs.Printed.{has_head, printed_part, printed_tab}
 use Rattle.litscan.specs.declared.options.Options.{Options}
 use Rattle.litscan.proofs.lemmas.Asked.{asked_if}
 

@@ -353,7 +353,7 @@ module _ (search : SearchValue) (options : Options) (name : List ℕ) (lines off
               let none = others_counted search options takes.lines takes.are.none
               ∙ cond-false options.others (length takes.lines) 0 kept in
               stops_nowhere (limit_of options) before _
-              (omega (arith, none, sum_by-take-le (λ line. cond {A = ℕ} (counts search options line) 1 0) takes.lines n))
+              (omega (arith, none, sum_by-take-le (λ l. cond {A = ℕ} (counts search options l) 1 0) takes.lines n))
               not_yet
         ]
 
@@ -528,8 +528,8 @@ module _ {search : SearchValue} {options : Options} {name : List ℕ} {old new :
           so_far.stops (λ n below. takes.stops n count not_yet below);
       counted = count-append (counts search options) seen takes.taken count ahead.count so_far.counted takes.counted;
       written_are = Appends-trans written now there out takes.out so_far.written_are takes.writes;
-      printed = prints_more search options name (is_silent options) 1 0 (lines + 1) offset seen takes.taken out takes.out
-          (omega (arith, so_far.lines_are)) (omega (arith, so_far.offset_is)) so_far.printed takes.printed;
+      printed = prints_more search options name (is_silent options) 1 0 (lines + 1) offset seen takes.taken out
+          takes.out (omega (arith, so_far.lines_are)) (omega (arith, so_far.offset_is)) so_far.printed takes.printed;
     }
 
     -- what was printed behind, of what was read behind: a line, or the end of the text
