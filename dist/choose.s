@@ -1,6 +1,6 @@
-# The exports of libliteral_search.a for x86-64. Each jumps to one of two builds of the same proved function: to NAME.v3
-# on a processor of the level x86-64-v3 (AVX2, BMI2 and others), to NAME.v2 on any other. dist/build adds a line
-# `export NAME` for each.
+# The exports of libliteral_search.a for x86-64, and `main` of a program. Each jumps to one of two builds of the same
+# proved function: to NAME.v3 on a processor of the level x86-64-v3 (AVX2, BMI2 and others), to NAME.v2 on any other.
+# dist/build adds a line `export NAME` for each.
 #
 # A constructor decides, when the program or the shared library is loaded. Until then calls go to NAME.v2, which gives
 # the same answers. So neither a loader nor a linker needs to know ifuncs, and no pointer to code can be overwritten.

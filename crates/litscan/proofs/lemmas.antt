@@ -4,9 +4,11 @@ pub mod Groups
 pub mod Lines
 pub mod Marks
 pub mod Near
+pub mod Others
 pub mod Passing
 pub mod Printing
 pub mod Reading
 pub mod Refused
 pub mod Request
+pub mod Vectors
 pub mod Zero

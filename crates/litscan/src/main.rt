@@ -1,6 +1,7 @@
 //! Prints the lines of files that contain a word, or the matches in them: `litscan [OPTION...] WORDS [FILE...]`.
 #![tactic(auto)]
 
+mod ahead;
 mod args;
 mod asked;
 mod color;

@@ -75,7 +75,7 @@ pub fn scan_near<R: BufRead + ReadsAhead, W: Write>(
 }
 
 /// Reads the next line. The writer is flushed first if the read may wait.
-fn read_line<R: BufRead + ReadsAhead, W: Write>(
+pub fn read_line<R: BufRead + ReadsAhead, W: Write>(
     options: Options,
     reader: &mut Device<R>,
     line: &mut Vec<u8>,

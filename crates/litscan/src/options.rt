@@ -8,6 +8,7 @@ ghost use Rattle.litscan.specs.Options.{limit_of, no_options, number_of, on_outp
 ghost use Rattle.litscan.specs.Options.{takes_action, takes_argument, takes_number, with_action, with_binary_files};
 ghost use Rattle.litscan.specs.Options.{with_digit, with_digit_of_lines, with_letter, with_number, with_plain_letter};
 ghost use Rattle.litscan.specs.Options.{skips_zero, with_switch};
+ghost use Rattle.litscan.specs.Printed.{has_head};
 
 /// When output is coloured.
 #[derive(Clone, Copy)]
@@ -369,6 +370,13 @@ impl Options {
         ensures { result ≡ is_silent self }
     {
         self.count || self.quiet || self.listed.is_some()
+    }
+
+    /// Whether the file name, the line number or the offset is printed before a line.
+    pub fn has_head(self) -> bool
+        ensures { result ≡ has_head self }
+    {
+        self.named.unwrap_or(false) || self.numbers || self.offsets
     }
 
     /// The number of lines of a file that have to be selected before reading stops, if there is a limit. It is at most

@@ -1,14 +1,18 @@
 //! Skips many lines without a match at once: those before the first match in the buffered bytes.
-ghost use Rattle.std.specs.Prelude.{◌≡◌, ◌⊎◌, ◌≢◌, ◌+◌, ◌-◌, ◌<◌, ◌≤◌, ◌==◌, ◌^◌, None, ℕ, IfOk, MatchOption, ⊤};
-ghost use Rattle.std.specs.Prelude.{length, slice_index, take};
+ghost use Rattle.std.specs.Prelude.{◌≡◌, ◌⊎◌, ◌≢◌, ◌+◌, ◌-◌, ◌<◌, ◌≤◌, ◌==◌, ◌^◌, None, ℕ, MatchOption, ⊤};
+ghost use Rattle.std.specs.Prelude.{length, slice_index};
 ghost use Rattle.std.specs.List.{count_by};
-ghost use Rattle.litscan.specs.Inside.Passed.{IsAhead, LiesInLine, Takes, len_of};
+ghost use Rattle.litscan.specs.Inside.Passed.{IsAhead, LiesInLine, len_of};
 
 use literal_search::{Match, Search};
-use std::alloc::AllocError;
+use std::simd::prelude::*;
 
-/// The ends of lines are counted in parts of this many bytes, so that each count fits into a byte.
-const PART: usize = 255;
+/// The number of lanes of a vector.
+const LANES: usize = 16;
+
+/// The ends of lines are counted in parts of this many bytes, so that each count fits into a byte: whole vectors of 16
+/// or 32 bytes.
+const PART: usize = 224;
 
 /// Skipped lines without a match, and possibly the next line.
 #[derive(Clone, Copy)]
@@ -22,17 +26,6 @@ pub struct Passed {
 }
 
 impl Passed {
-    /// No line was skipped.
-    pub fn none() -> Passed
-        ensures { result ≡ record { lines = 0; bytes = 0; next = None } }
-    {
-        Passed {
-            lines: 0,
-            bytes: 0,
-            next: None,
-        }
-    }
-
     /// The length of these lines in bytes, with the next one and its end.
     pub fn len(&self) -> usize
         requires { len_of self.now < 2 ^ 64 }
@@ -45,28 +38,8 @@ impl Passed {
     }
 }
 
-/// The lines before the first match in buffered bytes. The line of the match is copied into `line`, if it is there as a
-/// whole.
-pub fn take_ahead(
-    line_end: u8,
-    search: &Search,
-    bytes: &[u8],
-    line: &mut Vec<u8>,
-) -> Result<Passed, AllocError>
-    ensures takes { IfOk result (λ passed.
-        Takes line_end search.now passed line.new.items (take (len_of passed) bytes.now)) }
-    ensures inside { IfOk result (λ passed. len_of passed ≤ length bytes.now) }
-{
-    let passed = look_ahead(line_end, search, bytes);
-    if let Some(len) = passed.next {
-        line.clear();
-        line.extend_from_slice(&bytes[passed.bytes..passed.bytes + len])?;
-    }
-    Ok(passed)
-}
-
-/// The same, without the copy.
-fn look_ahead(line_end: u8, search: &Search, bytes: &[u8]) -> Passed
+/// The lines before the first match in buffered bytes, and the line of that match if it is there as a whole.
+pub fn look_ahead(line_end: u8, search: &Search, bytes: &[u8]) -> Passed
     ensures { IsAhead line_end search.now bytes.now result }
 {
     let Some(found) = search.find(bytes) else {
@@ -107,6 +80,24 @@ fn first_end(line_end: u8, bytes: &[u8], from: usize) -> usize
     ensures none { (k : ℕ) → from ≤ k → k < result → slice_index bytes.now k ≢ line_end }
     ensures feed { result < length bytes.now → slice_index bytes.now result ≡ line_end }
 {
+    let mut at = from;
+    while bytes.len() - at >= LANES {
+        let passed = before_end(line_end, bytes, at);
+        if passed < LANES {
+            return at + passed;
+        }
+        at += LANES;
+    }
+    first_of_few(line_end, bytes, at)
+}
+
+/// The same, byte by byte.
+fn first_of_few(line_end: u8, bytes: &[u8], from: usize) -> usize
+    requires { from ≤ length bytes.now }
+    ensures inside { (from ≤ result) × (result ≤ length bytes.now) }
+    ensures none { (k : ℕ) → from ≤ k → k < result → slice_index bytes.now k ≢ line_end }
+    ensures feed { result < length bytes.now → slice_index bytes.now result ≡ line_end }
+{
     for at in from..bytes.len() {
         if bytes[at] == line_end {
             return at;
@@ -122,12 +113,43 @@ fn end_of_lines(line_end: u8, bytes: &[u8], place: usize) -> usize
     ensures feed { (result ≡ 0) ⊎ ((0 < result) × (slice_index bytes.now (result - 1) ≡ line_end)) }
     ensures last { (k : ℕ) → result ≤ k → k < place → slice_index bytes.now k ≢ line_end }
 {
+    let mut end = place;
+    while end >= LANES && before_end(line_end, bytes, end - LANES) == LANES {
+        end -= LANES;
+    }
+    last_of_few(line_end, bytes, end)
+}
+
+/// The same, byte by byte.
+fn last_of_few(line_end: u8, bytes: &[u8], place: usize) -> usize
+    requires { place ≤ length bytes.now }
+    ensures before { result ≤ place }
+    ensures feed { (result ≡ 0) ⊎ ((0 < result) × (slice_index bytes.now (result - 1) ≡ line_end)) }
+    ensures last { (k : ℕ) → result ≤ k → k < place → slice_index bytes.now k ≢ line_end }
+{
     for end in (0..place).rev() {
         if bytes[end] == line_end {
             return end + 1;
         }
     }
     0
+}
+
+/// How many of 16 bytes come before the first that ends a line.
+#[inline(always)]
+fn before_end(line_end: u8, bytes: &[u8], at: usize) -> usize
+    requires { at + 16 ≤ length bytes.now }
+    ensures few { result ≤ 16 }
+    ensures none { (k : ℕ) → k < result → slice_index bytes.now (at + k) ≢ line_end }
+    ensures feed { result < 16 → slice_index bytes.now (at + result) ≡ line_end }
+{
+    let lanes = u8x16::from_slice(&bytes[at..]);
+    let ends = lanes.simd_eq(u8x16::splat(line_end)).to_bitmask();
+    if ends == 0 {
+        LANES
+    } else {
+        ends.trailing_zeros() as usize
+    }
 }
 
 /// The number of ends of lines.

@@ -226,8 +226,7 @@ fn print_tab<W: Write>(options: Options, bytes: &[u8], writer: &mut Device<W>) -
         (printed_tab options bytes.now)) }
     ensures error { IfErr result (IsWriteFault writer.new.failure) }
 {
-    let has_head = options.named.unwrap_or(false) || options.numbers || options.offsets;
-    if options.tab && has_head && !bytes.is_empty() {
+    if options.tab && options.has_head() && !bytes.is_empty() {
         return writer.write_all(b"\t");
     }
     Ok(())

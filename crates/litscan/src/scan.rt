@@ -8,27 +8,25 @@ ghost use Rattle.std.specs.Io.KnownBytes.{Appends, Consumes, Keeps};
 ghost use Rattle.literal_base.specs.declared.packed.MatchKind.TheVariants.{LeftmostLongest};
 ghost use Rattle.litscan.specs.Asked.{one_asked};
 ghost use Rattle.litscan.specs.Fault.{IsWriteFault, StopsRead};
+ghost use Rattle.litscan.specs.declared.fault.Fault.TheVariants.{ReadFailed};
 ghost use Rattle.litscan.specs.Lines.{lines_of};
-ghost use Rattle.litscan.specs.Inside.Passed.{HasWord, Takes, TakesNext, lines_read};
+ghost use Rattle.litscan.specs.Inside.Passed.{HasWord, PassesOthers, TakesLines, lines_read};
 ghost use Rattle.litscan.specs.Options.{is_silent, limit_of};
 ghost use Rattle.litscan.specs.Printed.{CannotRead, PrintsUnlessSilent, Reads, ReadsTooMany, StopsAtEnough, StopsScan};
 ghost use Rattle.litscan.specs.Printed.{are_enough, counts, printed_behind, printed_listed};
 ghost use Rattle.litscan.specs.Scans.{Scans, is_all};
 
+use crate::ahead::Ahead;
 use crate::asked::has_asked;
 use crate::color::{NAME, print_colored};
 use crate::device::{Device, ReadsAhead, flush_before_wait, flush_line};
 use crate::fault::Fault;
-use crate::near::scan_near;
+use crate::near::{read_line, scan_near};
 use crate::options::{Options, is_enough};
-use crate::passed::Passed;
 use crate::printing::{print_line, print_matches, print_name};
 use literal_search::Search;
 use std::alloc::Global;
 use std::io::{BufRead, ErrorKind, Write};
-
-/// After this many lines in a row without a match, a scan looks for the next match in all buffered bytes.
-const LONG: usize = 2;
 
 /// The result of a scan of a text.
 #[derive(Clone, Copy)]
@@ -159,127 +157,70 @@ fn scan_lines<R: BufRead + ReadsAhead, W: Write>(
 {
     let mut line = Vec::new(alloc);
     let (mut count, mut lines, mut offset) = (0, 0, 0);
-    let mut gap = Gap::new();
     loop {
         if is_enough(options.limit(), count) {
             return Ok(Scanned::whole(count));
         }
-        let next = match next_line(search, options, gap, reader, &mut line, writer) {
-            Ok(next) => next,
+        let ahead = match take_ahead(search, options, name, lines, offset, reader, writer) {
+            Ok(ahead) => ahead,
             Err(fault) => return failed_behind(count, fault, reader.failure()),
         };
-        let Some((start, end)) = offsets_behind(offset, next.passed.bytes, line.as_slice()) else {
+        count += ahead.count;
+        lines += ahead.lines as u64;
+        offset += ahead.bytes as u64;
+        if ahead.found {
+            continue;
+        }
+        let fed = match read_line(options, reader, &mut line, writer) {
+            Ok(fed) => fed,
+            Err(fault) => return failed_behind(count, fault, reader.failure()),
+        };
+        let line = line.as_slice();
+        let Some((start, end)) = offsets_behind(offset, 0, line) else {
             return Ok(Scanned::too_large(count));
         };
-        lines += next.passed.lines as u64 + 1;
-        let taken = take_read(
-            next,
-            search,
-            options,
-            name,
-            lines,
-            start,
-            line.as_slice(),
-            writer,
-        )?;
-        count += taken;
-        if !next.fed {
+        lines += 1;
+        count += take_read(fed, search, options, name, lines, start, line, writer)?;
+        if !fed {
             return Ok(Scanned::whole(count));
         }
         offset = end;
-        gap = gap.with(next.passed.lines, taken > 0);
     }
 }
 
-/// The number of lines since the last selected one, and between it and the one before it.
-#[derive(Clone, Copy)]
-struct Gap {
-    now: usize,
-    before: usize,
-}
-
-impl Gap {
-    /// The gap at the start of a text. It is long, so the scan begins by looking ahead.
-    fn new() -> Gap {
-        Gap {
-            now: LONG,
-            before: 0,
-        }
-    }
-
-    /// The gap after this many skipped lines and one more line, selected or not.
-    fn with(self, passed: usize, counts: bool) -> Gap {
-        let now = self.now.saturating_add(passed);
-        if counts {
-            return Gap {
-                now: 0,
-                before: now,
-            };
-        }
-        Gap {
-            now: now.saturating_add(1),
-            before: self.before,
-        }
-    }
-
-    /// Whether looking ahead is likely to be faster than searching the next line.
-    fn is_long(self) -> bool {
-        self.now.max(self.before) >= LONG
-    }
-}
-
-/// One step of a scan: the lines it skipped, and the text it read into the line buffer.
-#[derive(Clone, Copy)]
-struct Next {
-    passed: Passed,
-    /// Whether the end of a line followed the text in the line buffer. If not, the input has ended.
-    fed: bool,
-}
-
-/// Reads the next line that may be selected into the line buffer. It skips buffered lines that are not selected.
-fn next_line<R: BufRead + ReadsAhead, W: Write>(
+/// Handles whole lines of the buffered bytes, up to the first one with a match; none with `-v` and a limit, or if
+/// anything is printed before lines.
+fn take_ahead<R: BufRead + ReadsAhead, W: Write>(
     search: &Search,
     options: Options,
-    gap: Gap,
+    name: &[u8],
+    lines: u64,
+    offset: u64,
     reader: &mut Device<R>,
-    line: &mut Vec<u8>,
     writer: &mut Device<W>,
-) -> Result<Next, Fault>
-    ensures takes { IfOk result (λ next. TakesNext search.now options next line.new.items
-        (R.remaining reader.old.inner) (R.remaining reader.new.inner)) }
-    ensures kept { Keeps (W.contents writer.old.inner) (W.contents writer.new.inner) }
+) -> Result<Ahead, Fault>
+    requires longest { search.now.query.kind ≡ LeftmostLongest }
+    requires few { lines ≤ offset }
+    ensures takes { IfOk result (λ ahead. (text : List ℕ)
+        × Consumes (R.remaining reader.old.inner) (R.remaining reader.new.inner) text
+        × TakesLines search.now options name.now lines offset ahead text (W.contents writer.old.inner)
+        (W.contents writer.new.inner)) }
+    ensures kept { IfErr result (λ fault. fault ≡ ReadFailed
+        → Keeps (W.contents writer.old.inner) (W.contents writer.new.inner)) }
     ensures error { IfErr result (StopsRead reader.new.failure writer.new.failure) }
 {
-    let passed = pass_lines(search, options, gap, reader, line, writer)?;
-    if passed.next.is_some() {
-        return Ok(Next { passed, fed: true });
+    if !passes_others(options) {
+        return Ok(Ahead::none());
     }
     flush_before_wait(options.line_end, reader, writer)?;
-    let fed = reader.read_line(options.line_end, line)?;
-    Ok(Next { passed, fed })
+    reader.take_lines(search, options, name, lines, offset, writer)
 }
 
-/// Skips lines without a match, if such lines are not selected and the last gap was long.
-fn pass_lines<R: BufRead + ReadsAhead, W: Write>(
-    search: &Search,
-    options: Options,
-    gap: Gap,
-    reader: &mut Device<R>,
-    line: &mut Vec<u8>,
-    writer: &mut Device<W>,
-) -> Result<Passed, Fault>
-    ensures takes { IfOk result (λ passed. (text : List ℕ)
-        × Takes options.line_end search.now passed line.new.items text
-        × Consumes (R.remaining reader.old.inner) (R.remaining reader.new.inner) text) }
-    ensures none { IfOk result (λ passed. options.others ≡ true → passed.lines ≡ 0) }
-    ensures kept { Keeps (W.contents writer.old.inner) (W.contents writer.new.inner) }
-    ensures error { IfErr result (StopsRead reader.new.failure writer.new.failure) }
+/// Whether lines without a word may be handled together: none is selected, or all are printed as they are.
+fn passes_others(options: Options) -> bool
+    ensures { result ≡ true → PassesOthers options }
 {
-    if options.others || !gap.is_long() {
-        return Ok(Passed::none());
-    }
-    flush_before_wait(options.line_end, reader, writer)?;
-    reader.pass_lines(options.line_end, search, line)
+    !options.others || options.limit().is_none() && !options.has_head()
 }
 
 /// The result of a scan after this fault: a failed read ends the scan, and any other fault is passed on.
@@ -308,10 +249,10 @@ pub fn offsets_behind(offset: u64, passed: usize, line: &[u8]) -> Option<(u64, u
     Some((start, next))
 }
 
-/// Handles the text in the buffer as a line, except an empty text at the end of the input. Returns 1 if the line is
-/// selected, and otherwise 0.
+/// Handles the text in the buffer as a line, except an empty text at the end of the input, where no end of a line was
+/// read (`fed`). Returns 1 if the line is selected, and otherwise 0.
 fn take_read<W: Write>(
-    next: Next,
+    fed: bool,
     search: &Search,
     options: Options,
     name: &[u8],
@@ -320,30 +261,28 @@ fn take_read<W: Write>(
     line: &[u8],
     writer: &mut Device<W>,
 ) -> Result<u64, Fault>
-    requires known { IsSome next.passed.next → HasWord search.now line.now }
     requires longest { search.now.query.kind ≡ LeftmostLongest }
     requires inside { offset + length line.now < 2 ^ 64 }
     ensures few { IfOk result (λ count. count ≤ 1) }
     ensures counted { IfOk result (λ count.
-        count ≡ count_by (counts search.now options) (lines_read next.fed line.now)) }
+        count ≡ count_by (counts search.now options) (lines_read fed line.now)) }
     ensures printed { OnOk result ((out : List ℕ)
         × Appends (W.contents writer.old.inner) (W.contents writer.new.inner) out
         × PrintsUnlessSilent (is_silent options) search.now options name.now number offset
-        (lines_read next.fed line.now) out) }
+        (lines_read fed line.now) out) }
     ensures error { IfErr result (IsWriteFault writer.new.failure) }
 {
-    if !next.fed && line.is_empty() {
+    if !fed && line.is_empty() {
         return Ok(0);
     }
-    let known = next.passed.next.is_some();
-    let taken = take_line(known, search, options, name, number, offset, line, writer)?;
+    let taken = take_line(false, search, options, name, number, offset, line, writer)?;
     flush_line(options, writer)?;
     Ok(taken)
 }
 
 /// Prints a selected line, as requested, unless no lines are printed. Returns 1 if the line is selected, and otherwise
 /// 0.
-fn take_line<W: Write>(
+pub fn take_line<W: Write>(
     known: bool,
     search: &Search,
     options: Options,
@@ -378,7 +317,7 @@ fn take_line<W: Write>(
 }
 
 /// Whether no line leads to output: lines are not requested, or only the matches of lines without a match.
-fn prints_nothing(options: Options) -> bool
+pub fn prints_nothing(options: Options) -> bool
     ensures { result ≡ (is_silent options || (options.only && options.others)) }
 {
     options.is_silent() || options.only && options.others

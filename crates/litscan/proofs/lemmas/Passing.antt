@@ -1,39 +1,38 @@
 -- Lines that are passed over. For `passed`, `device` and `scan`.
-use Rattle.std.proofs.Common.{◌≡◌, ◌≢◌, ◌⊎◌, ◌+◌, ◌-◌, ◌<◌, ◌≤◌, ◌==◌, ℕ, Bool, List, [], ◌∷◌, ◌++◌}
+use Rattle.std.proofs.Common.{◌≡◌, ◌≢◌, ◌⊎◌, ◌+◌, ◌-◌, ◌<◌, ◌≤◌, ◌^◌, ◌==◌, ℕ, Bool, List, [], ◌∷◌, ◌++◌}
 use Rattle.std.proofs.Common.{None, Option, Some, false, get_or, length, take-append-drop, true}
-use Rattle.std.proofs.KnownBytes.{Appends-kept, Appends-trans, Consumes-trans}
+use Rattle.std.proofs.KnownBytes.{Appends-kept, Appends-nil, Appends-trans, Consumes-trans}
 use Rattle.std.proofs.lemmas.Bool.{cases_Bool, cases_lt}
 use Rattle.std.proofs.Common.{append-nil, append_assoc, ap, arith, cond, drop, inl, inr, length-append, refl}
 use Rattle.std.proofs.Common.{slice_range, subst, sym, take, ◌∙◌}
 use Rattle.std.proofs.lemmas.Bool.{cond-false, cond-true, eq-eqb, ne_eqb}
 use Rattle.std.proofs.lemmas.List.{drop-append-le, flat_map_more, get_or-append-add, get_or-drop}
 use Rattle.std.proofs.lemmas.List.{get_or-take, get_or_default, length-drop, length-take-le, length_push, take_more}
-use Rattle.std.proofs.lemmas.List.{drop-take, take-take}
+use Rattle.std.proofs.lemmas.List.{drop-take, take_all, take-take}
 use Rattle.std.proofs.lemmas.List.{take-append-le}
 use Rattle.std.proofs.lemmas.List.Elements.{All-append, All-cons, All-head, All-nil, All-push, All-tail}
 use Rattle.std.proofs.lemmas.List.Sums.{count_by-le-length, sum_by-append, sum_by-cons, sum_by-take-le}
 use Rattle.std.proofs.Math.Seq.{drop-append-add, drop-append_seam, take-add, take-append-add, take-append_seam}
 use Rattle.std.proofs.lemmas.Grind.{flat_map-append}
-use Rattle.std.specs.Io.KnownBytes.{Appends, Consumes, IsAtEnd, Keeps, prepend_known}
+use Rattle.std.specs.Io.KnownBytes.{Appends, Consumes, IsAtEnd, Keeps}
 use Rattle.std.specs.List.{All, count_by, flat_map}
 use Rattle.literal_base.specs.Occurs.{Occurs, case_folded, pattern_at, whole_of}
 use Rattle.literal_base.specs.MatchValue.{MatchValue}
 use Rattle.literal_search.specs.SearchValue.{SearchValue}
-use Rattle.litscan.specs.Asked.{one_asked}
 use Rattle.litscan.specs.Lines.{HasNoEnd, lines_of, with_end}
 use Rattle.litscan.specs.Inside.Passed.{ArePassed, HasNoWord, HasWord, IsAhead, LiesInLine, Takes, lines_read}
-use Rattle.litscan.specs.Inside.Passed.{TakesNext, len_of, len_with, next_of}
+use Rattle.litscan.specs.Inside.Passed.{PassesOthers, TakesLines, len_of, len_with, next_of, prints_others}
+use Rattle.litscan.specs.declared.ahead.Ahead.{Ahead}
 use Rattle.litscan.specs.Options.{is_enough, is_silent, limit_of}
-use Rattle.litscan.specs.Printed.{PrintsLine, PrintsUnlessSilent, Reads, StopsAtEnough, are_enough, counts}
+use Rattle.litscan.specs.Printed.{PrintsUnlessSilent, Reads, StopsAtEnough, are_enough, counts}
 use Rattle.litscan.specs.declared.options.Options.{Options}
 use Rattle.litscan.specs.declared.passed.Passed.{Passed}
-use Rattle.litscan.specs.declared.scan.Next.{Next}
 use Rattle.litscan.specs.declared.scan.Scanned.{Scanned}
-use Rattle.std.specs.Option.{IfSome, IsSome, OnSome, is_some}
+use Rattle.std.specs.Option.{IfSome, IsSome, OnSome}
 use Rattle.std.specs.declared.io.ErrorKind.{ErrorKind}
-use Rattle.litscan.proofs.lemmas.Asked.{asked_if}
 use Rattle.litscan.proofs.lemmas.Lines.{Other, lines_are, lines_of-feeds, lines_of-split}
-use Rattle.litscan.proofs.lemmas.Printing.{count-append, prints_more, prints_none}
+use Rattle.litscan.proofs.lemmas.Others.{others_counted, others_printed}
+use Rattle.litscan.proofs.lemmas.Printing.{count-append, length-feeds_push, prints_more, prints_none}
 use Rattle.litscan.proofs.lemmas.Reading.{length-feeds_most, length-lines_read, read_all, read_more, reads_any}
 use Rattle.litscan.proofs.lemmas.Reading.{reads_front, stops_later}
 
@@ -94,18 +93,6 @@ module _ (line_end : ℕ) where
       ∙ ap (λ k. take k (drop at part ++ back)) left
       ∙ take-append-le n (drop at part) back (omega (arith, fits, length-drop at part))
       ∙ ap (λ k. take k (drop at part)) (sym left_in)
-
-  -- where nothing is passed over nothing is taken
-  pub takes_nothing : (search : SearchValue) (line : List ℕ)
-      → Takes line_end search (record { lines = 0; bytes = 0; next = None }) line []
-  takes_nothing search line = record {
-    lines = [];
-    are = record { whole = All-nil (HasNoEnd line_end); none = All-nil (HasNoWord search) };
-    count = refl;
-    bytes = refl;
-    next = tt;
-    text_is = refl;
-  }
 
   -- the line behind the front of a text
   pub line_behind : (bytes front line : List ℕ) (start len : ℕ) → start ≡ length front → len ≡ length line
@@ -285,58 +272,194 @@ module _ (line_end : ℕ) where
                 (subst (λ n. OccursIn bytes found.pattern n) at occurs))
                 (omega (arith, lies.inside, whole, long, before, is))
 
-    module _ (options : Options) (name : List ℕ) (kept : options.others ≡ false) where
-      none_asked : (line : List ℕ) → HasNoWord search line → counts search options line ≡ false
-      none_asked line none =
-          cond-false options.others _ _ kept
-          ∙ (elim (cases_Bool (one_asked search options line)) [
-            | inl told ↦ let is = asked_if search options line told in absurd (none is.0 is.1 is.2.occurs)
-            | inr other ↦ other
-          ])
+-- what is not enough is not enough with no more lines
+stops_nowhere : (limit : Option ℕ) (before more : ℕ) → more ≡ 0 → is_enough limit before ≡ false
+    → is_enough limit (before + more) ≡ false
+stops_nowhere limit before more none not_yet =
+    let same : before + more ≡ before = omega (arith, none) in
+    ap (λ n. is_enough limit n) same ∙ not_yet
 
-      -- lines in which no word occurs do not count
-      pub none_counts : (lines : List (List ℕ))
-          → All (HasNoWord search) lines
-          → count_by (counts search options) lines ≡ 0
-      none_counts [] none = refl
-      none_counts (line ∷ more) none =
-          let word = none_asked line (All-head (HasNoWord search) line more none) in
-          let first = cond-false {A = ℕ} (counts search options line) 1 0 word in
-          let rest = none_counts more (All-tail (HasNoWord search) line more none) in
-          omega (arith, first, rest, sum_by-cons (λ l. cond (counts search options l) 1 0) line more)
-
-      -- and nothing is printed of them
-      pub none_printed : (silent : Bool) (number offset : ℕ) (lines : List (List ℕ))
-          → All (HasNoWord search) lines
-          → PrintsUnlessSilent silent search options name number offset lines []
-      none_printed true number offset lines none = refl
-      none_printed false number offset [] none = refl
-      none_printed false number offset (line ∷ more) none =
-          let rest = All-tail (HasNoWord search) line more none in
-          ([], [], first, none_printed false (number + 1) (offset + length line + 1) more rest, refl)
-        where
-          first : PrintsLine (counts search options line) search options name number offset line []
-          first = subst (λ b. PrintsLine b search options name number offset line [])
-              (sym (none_asked line (All-head (HasNoWord search) line more none))) refl
-
--- lines that do not count are not enough where those before them are not
-pub stops_behind : (limit : Option ℕ) (test : List ℕ → Bool) (seen more : List (List ℕ)) → count_by test more ≡ 0
-    → StopsAtEnough limit test seen → is_enough limit (count_by test seen) ≡ false
+-- lines are handled one after another until enough are selected
+stops_behind : (limit : Option ℕ) (test : List ℕ → Bool) (seen more : List (List ℕ)) (count : ℕ)
+    → count ≡ count_by test seen → StopsAtEnough limit test seen
+    → ((n : ℕ) → n < length more → is_enough limit (count + count_by test (take n more)) ≡ false)
     → StopsAtEnough limit test (seen ++ more)
-stops_behind limit test seen more none before not_yet n below =
-    let one = λ (line : List ℕ). cond {A = ℕ} (test line) 1 0 in
+stops_behind limit test seen more count counted before behind n below =
     let enough = λ (lines : List (List ℕ)). is_enough limit (count_by test lines) in
     elim (cases_lt n (length seen)) [
       | inl front ↦ ap enough (take-append-le n seen more (omega (arith, front))) ∙ before n front
-      | inr behind ↦
+      | inr later ↦
           let k = n - length seen in
-          let place : n ≡ length seen + k = omega (arith, behind) in
-          let no_more = sum_by-take-le one more k in
-          let count : count_by test (seen ++ take k more) ≡ count_by test seen =
-          omega (arith, sum_by-append one seen (take k more), no_more, none) in
+          let place : n ≡ length seen + k = omega (arith, later) in
+          let inside : k < length more = omega (arith, later, below, length-append seen more) in
+          let both : count_by test (seen ++ take k more) ≡ count + count_by test (take k more) =
+          omega (arith, counted, sum_by-append (λ line. cond {A = ℕ} (test line) 1 0) seen (take k more)) in
           ap enough (ap (λ m. take m (seen ++ more)) place ∙ take-append-add seen more k)
-          ∙ ap (λ m. is_enough limit m) count ∙ not_yet
+          ∙ ap (λ m. is_enough limit m) both ∙ behind k inside
     ]
+
+-- none was handled
+pub nothing_taken : (search : SearchValue) (options : Options) (name : List ℕ) (lines offset : ℕ)
+    (written : Option (List ℕ)) → offset < 2 ^ 64
+    → TakesLines search options name lines offset (record { lines = 0; bytes = 0; count = 0; found = false }) [] written
+    written
+nothing_taken search options name lines offset written small = record {
+  taken = [];
+  whole = All-nil (HasNoEnd options.line_end);
+  text_is = refl;
+  lines_are = refl;
+  bytes_are = refl;
+  small = omega (arith, small);
+  some = λ found. absurd (cc);
+  counted = refl;
+  stops = λ n before not_yet below. absurd (omega (arith, below));
+  out = [];
+  writes = Appends-nil written;
+  printed = prints_none search options name (is_silent options) (lines + 1) offset;
+  not_enough = λ found before not_yet. stops_nowhere (limit_of options) before 0 refl not_yet;
+}
+
+len_more : (bytes : ℕ) (next : Option ℕ) → bytes ≤ len_with bytes next
+len_more bytes None = omega arith
+len_more bytes (Some len) = omega arith
+
+module _ (search : SearchValue) (options : Options) (name : List ℕ) (lines offset : ℕ) (bytes : List ℕ)
+    (passed : Passed) (plain : PassesOthers options)
+  where
+    counted_front : {line text : List ℕ} → (takes : Takes options.line_end search passed line text) → (others : ℕ)
+        → others ≡ cond options.others passed.lines 0 → others ≡ count_by (counts search options) takes.lines
+    counted_front takes others is =
+        is ∙ ap (λ n. cond options.others n 0) takes.count
+        ∙ sym (others_counted search options takes.lines takes.are.none)
+
+    printed_front_lines : {line text : List ℕ} → (takes : Takes options.line_end search passed line text)
+        → (front : List ℕ) → front ≡ flat_map (with_end options.line_end) takes.lines
+        → PrintsUnlessSilent (is_silent options) search options name (lines + 1) offset takes.lines
+        (cond (prints_others options) front [])
+    printed_front_lines takes front is =
+        subst (λ bytes. PrintsUnlessSilent (is_silent options) search options name (lines + 1) offset takes.lines
+        (cond (prints_others options) bytes [])) (sym is)
+        (others_printed search options name plain takes.lines takes.are.none (lines + 1) offset)
+
+    stops_front : {line text : List ℕ} → (takes : Takes options.line_end search passed line text) → (n before : ℕ)
+        → is_enough (limit_of options) before ≡ false
+        → is_enough (limit_of options) (before + count_by (counts search options) (take n takes.lines)) ≡ false
+    stops_front takes n before not_yet =
+        elim (cases_Bool options.others) [
+          | inl others ↦
+              ap (λ limit. is_enough limit (before + count_by (counts search options) (take n takes.lines)))
+              (plain others).0
+          | inr kept ↦
+              let none = others_counted search options takes.lines takes.are.none
+              ∙ cond-false options.others (length takes.lines) 0 kept in
+              stops_nowhere (limit_of options) before _
+              (omega (arith, none, sum_by-take-le (λ l. cond {A = ℕ} (counts search options l) 1 0) takes.lines n))
+              not_yet
+        ]
+
+    -- the lines without a word are the first bytes
+    front_of : {line : List ℕ} → (takes : Takes options.line_end search passed line (take (len_of passed) bytes))
+        → take passed.bytes bytes ≡ flat_map (with_end options.line_end) takes.lines
+    front_of {line} takes =
+        let front = flat_map (with_end options.line_end) takes.lines in
+        let all : take passed.bytes (take (len_of passed) bytes) ≡ front =
+        ap (λ n. take n (take (len_of passed) bytes)) takes.bytes ∙ ap (take (length front)) takes.text_is
+        ∙ take-append_seam front (next_of options.line_end passed.next line) in
+        sym (take-take passed.bytes (len_of passed) bytes (len_more passed.bytes passed.next)) ∙ all
+
+    -- there are no more lines than bytes, and the line behind them is there
+    pub with_line : (len : ℕ) → passed.next ≡ Some len → IsAhead options.line_end search bytes passed
+        → (passed.lines ≤ passed.bytes) × (passed.bytes + len + 1 ≤ length bytes)
+    with_line len is ahead = (
+      omega (arith, ahead.1.count, ahead.1.bytes, length-feeds_most options.line_end ahead.1.lines),
+      subst (λ next. len_with passed.bytes next ≤ length bytes) is ahead.2,
+    )
+
+    -- and a word is in the line behind them
+    pub word_behind : (len : ℕ) → passed.next ≡ Some len → (ahead : IsAhead options.line_end search bytes passed)
+        → HasWord search (slice_range bytes passed.bytes (passed.bytes + len))
+    word_behind len is ahead =
+        let takes = takes_copy options.line_end search bytes passed _ len is refl ahead in
+        (subst (λ next. IfSome next (λ n. (n ≡ length (slice_range bytes passed.bytes (passed.bytes + len)))
+        × HasNoEnd options.line_end (slice_range bytes passed.bytes (passed.bytes + len))
+        × HasWord search (slice_range bytes passed.bytes (passed.bytes + len)))) is takes.next).2
+
+    -- lines without a word are handled
+    pub lines_taken : (others : ℕ) → others ≡ cond options.others passed.lines 0 → (written now : Option (List ℕ))
+        → Appends written now (cond (prints_others options) (take passed.bytes bytes) [])
+        → offset + length bytes < 2 ^ 64 → passed.next ≡ None → IsAhead options.line_end search bytes passed
+        → TakesLines search options name lines offset
+        (record { lines = passed.lines; bytes = passed.bytes; count = others; found = false }) (take passed.bytes bytes)
+        written now
+    lines_taken others others_are written now writes small is ahead =
+        let takes = ahead.1 in
+        let text_is = front_of takes in
+        let counted = counted_front takes others others_are in
+        let inside = subst (λ next. len_with passed.bytes next ≤ length bytes) is ahead.2 in
+        record {
+          taken = takes.lines;
+          whole = takes.are.whole;
+          text_is = text_is;
+          lines_are = takes.count;
+          bytes_are = takes.bytes ∙ ap (λ (l : List ℕ). length l) (sym text_is);
+          small = omega (arith, small, inside);
+          some = λ found. absurd (cc);
+          counted = counted;
+          stops = λ n before not_yet below. stops_front takes n before not_yet;
+          out = cond (prints_others options) (take passed.bytes bytes) [];
+          writes = writes;
+          printed = printed_front_lines takes (take passed.bytes bytes) text_is;
+          not_enough = λ found before not_yet.
+              let all = take_all (length takes.lines) takes.lines (omega arith) in
+              ap (λ n. is_enough (limit_of options) (before + n))
+              (counted ∙ ap (count_by (counts search options)) (sym all))
+              ∙ stops_front takes (length takes.lines) before not_yet;
+        }
+
+    -- and the line behind them, of which this was printed
+    pub line_taken : (others : ℕ) → others ≡ cond options.others passed.lines 0 → (written between : Option (List ℕ))
+        → Appends written between (cond (prints_others options) (take passed.bytes bytes) [])
+        → (len : ℕ) (line : List ℕ) → passed.next ≡ Some len
+        → Takes options.line_end search passed line (take (len_of passed) bytes)
+        → (number start count : ℕ) → number ≡ lines + passed.lines + 1 → start ≡ offset + passed.bytes
+        → offset + (passed.bytes + len + 1) < 2 ^ 64 → count ≡ count_by (counts search options) (line ∷ [])
+        → (now : Option (List ℕ)) (out : List ℕ) → Appends between now out
+        → PrintsUnlessSilent (is_silent options) search options name number start (line ∷ []) out
+        → TakesLines search options name lines offset
+        (record { lines = passed.lines + 1; bytes = passed.bytes + len + 1; count = others + count; found = true })
+        (take (passed.bytes + len + 1) bytes) written now
+    line_taken others others_are written between before len line is takes number start count number_is start_is small
+        counted now out writes printed =
+        let front = takes.lines in
+        let word = subst (λ next. IfSome next
+        (λ n. (n ≡ length line) × HasNoEnd options.line_end line × HasWord search line)) is takes.next in
+        let text_is : take (passed.bytes + len + 1) bytes ≡ flat_map (with_end options.line_end) (front ++ line ∷ []) =
+        ap (λ next. take (len_with passed.bytes next) bytes) (sym is) ∙ takes.text_is
+        ∙ ap (λ next. flat_map (with_end options.line_end) front ++ next_of options.line_end next line) is
+        ∙ flat_map_more (with_end options.line_end) [] front line in
+        let size = length-feeds_push options.line_end front line in
+        let shown = cond (prints_others options) (take passed.bytes bytes) [] in
+        record {
+          taken = front ++ line ∷ [];
+          whole = All-push (HasNoEnd options.line_end) front line takes.are.whole word.1;
+          text_is = text_is;
+          lines_are = omega (arith, takes.count, length_push front line);
+          bytes_are = omega (arith, takes.bytes, word.0, size, ap (λ (l : List ℕ). length l) text_is);
+          small = small;
+          some = λ found. omega arith;
+          counted = count-append (counts search options) front (line ∷ []) others count
+              (counted_front takes others others_are) counted;
+          stops = λ n before not_yet below.
+              let few : n ≤ length front = omega (arith, below, length_push front line) in
+              ap (λ l. is_enough (limit_of options) (before + count_by (counts search options) l))
+              (take-append-le n front (line ∷ []) few) ∙ stops_front takes n before not_yet;
+          out = shown ++ out;
+          writes = Appends-trans written between now shown out before writes;
+          printed = prints_more search options name (is_silent options) (lines + 1) offset number start front
+              (line ∷ []) shown out (omega (arith, number_is, takes.count)) (omega (arith, start_is, takes.bytes))
+              (printed_front_lines takes (take passed.bytes bytes) (front_of takes)) printed;
+          not_enough = λ found. absurd (cc);
+        }
 
 -- a scan has read these lines and printed this of them: so many count, so many they are, and so many bytes they have
 pub record SoFar (search : SearchValue) (options : Options) (name : List ℕ) (old new : Option (List ℕ))
@@ -383,68 +506,31 @@ module _ {search : SearchValue} {options : Options} {name : List ℕ} {old new :
     not_enough : is_enough (limit_of options) (count_by (counts search options) seen) ≡ false
     not_enough = ap (λ n. is_enough (limit_of options) n) (sym so_far.counted) ∙ not_yet
 
-    -- lines were passed over
-    passed_on : (next : Option (List ℕ)) (passed : List (List ℕ)) → ArePassed options.line_end search passed
-        → options.others ≡ false ⊎ (passed ≡ []) → Consumes new next (flat_map (with_end options.line_end) passed)
-        → SoFar search options name old next written now (seen ++ passed) out count (lines + length passed)
-        (offset + length (flat_map (with_end options.line_end) passed))
-    passed_on next passed are why read = record {
-      whole = All-append (HasNoEnd options.line_end) seen passed so_far.whole are.whole;
-      read = subst (Consumes old next) (sym (flat_map-append (with_end options.line_end) seen passed))
-          (Consumes-trans old new next _ _ so_far.read read);
-      lines_are = omega (arith, so_far.lines_are, length-append seen passed);
+    -- lines were handled where they are buffered
+    pub taken_on : {ahead : Ahead} {text : List ℕ} {next there : Option (List ℕ)} → Consumes new next text
+        → (takes : TakesLines search options name lines offset ahead text now there)
+        → SoFar search options name old next written there (seen ++ takes.taken) (out ++ takes.out)
+        (count + ahead.count) (lines + ahead.lines) (offset + ahead.bytes)
+    taken_on {ahead} {text} {next} {there} read takes = record {
+      whole = All-append (HasNoEnd options.line_end) seen takes.taken so_far.whole takes.whole;
+      read = subst (Consumes old next) (sym (flat_map-append (with_end options.line_end) seen takes.taken))
+          (Consumes-trans old new next _ _ so_far.read (subst (Consumes new next) takes.text_is read));
+      lines_are = omega (arith, so_far.lines_are, takes.lines_are, length-append seen takes.taken);
       offset_is = omega (
         arith,
         so_far.offset_is,
-        length-append (flat_map (with_end options.line_end) seen) (flat_map (with_end options.line_end) passed),
-        ap (λ (l : List ℕ). length l) (flat_map-append (with_end options.line_end) seen passed),
+        takes.bytes_are,
+        ap (λ (l : List ℕ). length l) takes.text_is,
+        length-append (flat_map (with_end options.line_end) seen) (flat_map (with_end options.line_end) takes.taken),
+        ap (λ (l : List ℕ). length l) (flat_map-append (with_end options.line_end) seen takes.taken),
       );
-      stops = stops_behind (limit_of options) (counts search options) seen passed none so_far.stops not_enough;
-      counted = omega (
-        arith,
-        so_far.counted,
-        none,
-        sum_by-append (λ l. cond {A = ℕ} (counts search options l) 1 0) seen passed,
-      );
-      written_are = so_far.written_are;
-      printed = subst (PrintsUnlessSilent (is_silent options) search options name 1 0 (seen ++ passed)) (append-nil out)
-          (prints_more search options name (is_silent options) 1 0 (length seen + 1)
-          (length (flat_map (with_end options.line_end) seen) + 0) seen passed out [] refl refl so_far.printed
-          (printed_nothing why));
+      stops = stops_behind (limit_of options) (counts search options) seen takes.taken count so_far.counted
+          so_far.stops (λ n below. takes.stops n count not_yet below);
+      counted = count-append (counts search options) seen takes.taken count ahead.count so_far.counted takes.counted;
+      written_are = Appends-trans written now there out takes.out so_far.written_are takes.writes;
+      printed = prints_more search options name (is_silent options) 1 0 (lines + 1) offset seen takes.taken out
+          takes.out (omega (arith, so_far.lines_are)) (omega (arith, so_far.offset_is)) so_far.printed takes.printed;
     }
-      where
-        none : count_by (counts search options) passed ≡ 0
-        none = elim why [
-          | inl kept ↦ none_counts options.line_end search options name kept passed are.none
-          | inr empty ↦ ap (count_by (counts search options)) empty
-        ]
-
-        printed_nothing : options.others ≡ false ⊎ (passed ≡ [])
-            → PrintsUnlessSilent (is_silent options) search options name (length seen + 1)
-            (length (flat_map (with_end options.line_end) seen) + 0) passed []
-        printed_nothing (inl kept) = none_printed options.line_end search options name kept
-            (is_silent options) _ _ passed are.none
-        printed_nothing (inr empty) =
-            subst (λ l. PrintsUnlessSilent (is_silent options) search options name (length seen + 1)
-            (length (flat_map (with_end options.line_end) seen) + 0) l []) (sym empty)
-            (prints_none search options name (is_silent options) (length seen + 1)
-            (length (flat_map (with_end options.line_end) seen) + 0))
-
-    -- the same of what was read in one step
-    pub passed_here : {next : Next} {line : List ℕ} {there : Option (List ℕ)}
-        → (is : TakesNext search options next line new there)
-        → SoFar search options name old is.between written now (seen ++ is.lines) out count
-        (lines + next.passed.lines) (offset + next.passed.bytes)
-    passed_here {next} is =
-        let why : options.others ≡ false ⊎ (is.lines ≡ []) =
-        elim (cases_Bool options.others) [
-          | inl others ↦ inr (is.none others)
-          | inr kept ↦ inl kept
-        ] in
-        subst (λ n. SoFar search options name old is.between written now (seen ++ is.lines) out count (lines + n)
-        (offset + next.passed.bytes)) (sym is.count)
-        (subst (λ n. SoFar search options name old is.between written now (seen ++ is.lines) out count
-        (lines + length is.lines) (offset + n)) (sym is.bytes) (passed_on is.between is.lines is.are why is.passes))
 
     -- what was printed behind, of what was read behind: a line, or the end of the text
     pub printed_on : (line part : List ℕ) (fed : Bool) (number start : ℕ) → number ≡ lines + 1 → start ≡ offset
@@ -564,76 +650,3 @@ module _ {search : SearchValue} {options : Options} {name : List ℕ} {old new :
               (printed_on so_far not_yet line part false number start number_is start_is printed),
           counted_on so_far not_yet line false taken counted ∙ ap (count_by (counts search options)) are,
         )
-
--- what is read in two parts
-between_parts : (old new : Option (List ℕ)) (front line : List ℕ) → Consumes old new (front ++ line)
-    → Consumes old (prepend_known line new) front × Consumes (prepend_known line new) new line
-between_parts None None front line read = (tt, tt)
-between_parts None (Some left) front line read = (tt, refl)
-between_parts (Some bytes) None front line read = absurd read
-between_parts (Some bytes) (Some left) front line read = (read ∙ append_assoc front line left, refl)
-
-module _ (search : SearchValue) (options : Options) (passed : Passed) (line text : List ℕ)
-    (takes : Takes options.line_end search passed line text) (none : options.others ≡ true → passed.lines ≡ 0)
-  where
-    no_lines : options.others ≡ true → takes.lines ≡ []
-    no_lines others = by takes.lines (sym takes.count ∙ none others)
-      where
-        by : (lines : List (List ℕ)) → length lines ≡ 0 → lines ≡ []
-        by [] zero = refl
-        by (first ∷ more) zero = absurd (omega (arith, zero))
-
-    -- lines are passed over, and the next one is read with them
-    pub takes_both : (old new : Option (List ℕ)) → is_some passed.next ≡ true → Consumes old new text
-        → TakesNext search options (record { passed = passed; fed = true }) line old new
-    takes_both old new some read = by passed.next some takes.next takes.text_is
-      where
-        by : (next : Option ℕ) → is_some next ≡ true
-            → IfSome next (λ len. (len ≡ length line) × HasNoEnd options.line_end line × HasWord search line)
-            → text ≡ flat_map (with_end options.line_end) takes.lines ++ next_of options.line_end next line
-            → TakesNext search options (record { passed = passed; fed = true }) line old new
-        by None some word is = absurd (cc)
-        by (Some len) some word is =
-            let parts = between_parts old new (flat_map (with_end options.line_end) takes.lines)
-            (with_end options.line_end line)
-            (subst (Consumes old new) is read) in
-            record {
-              lines = takes.lines;
-              are = takes.are;
-              none = no_lines;
-              count = takes.count;
-              bytes = takes.bytes;
-              known = λ is. word.2;
-              whole = word.1;
-              between = prepend_known (with_end options.line_end line) new;
-              passes = parts.0;
-              reads = parts.1;
-              ended = λ unfed. absurd (cc);
-            }
-
-    -- or behind them
-    pub takes_apart : (fed : Bool) (old after new : Option (List ℕ)) (last : List ℕ) → is_some passed.next ≡ false
-        → Consumes old after text → HasNoEnd options.line_end last
-        → Consumes after new (cond fed (with_end options.line_end last) last)
-        → (fed ≡ false → OnSome after (IsAtEnd new))
-        → TakesNext search options (record { passed = passed; fed = fed }) last old new
-    takes_apart fed old after new last none_there read whole reads ended = record {
-      lines = takes.lines;
-      are = takes.are;
-      none = no_lines;
-      count = takes.count;
-      bytes = takes.bytes;
-      known = λ is. absurd (cc);
-      whole = whole;
-      between = after;
-      passes = by passed.next none_there takes.text_is;
-      reads = reads;
-      ended = ended;
-    }
-      where
-        by : (next : Option ℕ) → is_some next ≡ false
-            → text ≡ flat_map (with_end options.line_end) takes.lines ++ next_of options.line_end next line
-            → Consumes old after (flat_map (with_end options.line_end) takes.lines)
-        by None none is = subst (Consumes old after)
-            (is ∙ append-nil (flat_map (with_end options.line_end) takes.lines)) read
-        by (Some len) none is = absurd (cc)

@@ -1,16 +1,17 @@
 -- Lines that are skipped, and text that is read as a line.
-use Rattle.std.specs.Prelude.{◌≡◌, ◌≢◌, ◌+◌, ◌<◌, ◌≤◌, ◌++◌, ℕ, Bool, List, [], ◌∷◌, None, Option, Some, IfSome}
-use Rattle.std.specs.Prelude.{false, if◌then◌else◌, length, slice_index, take, true}
-use Rattle.std.specs.List.{All, flat_map}
-use Rattle.std.specs.Option.{IsSome, OnSome}
-use Rattle.std.specs.Io.KnownBytes.{Consumes, IsAtEnd}
+use Rattle.std.specs.Prelude.{◌≡◌, ◌≢◌, ◌+◌, ◌<◌, ◌≤◌, ◌^◌, ◌++◌, ℕ, Bool, List, [], ◌∷◌, None, Option, Some, IfSome}
+use Rattle.std.specs.Prelude.{◌&&◌, ◌||◌, false, length, not, slice_index, take, true}
+use Rattle.std.specs.List.{All, count_by, flat_map}
+use Rattle.std.specs.Io.KnownBytes.{Appends}
 use Rattle.literal_base.specs.MatchValue.{MatchValue}
 use Rattle.literal_base.specs.Occurs.{NothingOccurs, Occurs, whole_of}
 use Rattle.literal_search.specs.SearchValue.{SearchValue}
 use Rattle.litscan.specs.Lines.{HasNoEnd, last_line, with_end}
+use Rattle.litscan.specs.Options.{is_enough, is_silent, limit_of}
+use Rattle.litscan.specs.Printed.{PrintsUnlessSilent, counts, has_head}
+use Rattle.litscan.specs.declared.ahead.Ahead.{Ahead}
 use Rattle.litscan.specs.declared.options.Options.{Options}
 use Rattle.litscan.specs.declared.passed.Passed.{Passed}
-use Rattle.litscan.specs.declared.scan.Next.{Next}
 
 -- no word of a search occurs in a line
 abbrev pub HasNoWord : SearchValue → List ℕ → Type 0
@@ -66,18 +67,30 @@ abbrev pub lines_read : Bool → List ℕ → List (List ℕ)
 lines_read true line = line ∷ []
 lines_read false last = last_line last
 
--- the text that was read: lines that are not selected, with their number and length, and then the line buffer, followed
--- by a line feed if `fed` is true. If `next` is known, the line buffer contains a word
-pub record TakesNext (search : SearchValue) (options : Options) (next : Next) (line : List ℕ)
-    (old new : Option (List ℕ)) : Type 0 where
-  pub lines : List (List ℕ)
-  pub are : ArePassed options.line_end search lines
-  pub none : options.others ≡ true → lines ≡ []
-  pub count : next.passed.lines ≡ length lines
-  pub bytes : next.passed.bytes ≡ length (flat_map (with_end options.line_end) lines)
-  pub known : IsSome next.passed.next → HasWord search line
-  pub whole : HasNoEnd options.line_end line
-  pub between : Option (List ℕ)
-  pub passes : Consumes old between (flat_map (with_end options.line_end) lines)
-  pub reads : Consumes between new (if next.fed then with_end options.line_end line else line)
-  pub ended : next.fed ≡ false → OnSome between (IsAtEnd new)
+-- if lines without a word are selected, there is no limit, and nothing is printed before a line
+abbrev pub PassesOthers : Options → Type 0
+PassesOthers options = options.others ≡ true → (limit_of options ≡ None) × (has_head options ≡ false)
+
+-- whether lines without a word are printed
+abbrev pub prints_others : Options → Bool
+prints_others options = options.others && not (is_silent options || (options.only && options.others))
+
+-- a text consists of whole lines that were handled. They follow so many lines, and begin at this offset of the whole
+-- text. Fewer of them, from the first on, are not enough where the lines before them are not
+pub record TakesLines (search : SearchValue) (options : Options) (name : List ℕ) (lines offset : ℕ) (ahead : Ahead)
+    (text : List ℕ) (written now : Option (List ℕ)) : Type 0 where
+  pub taken : List (List ℕ)
+  pub whole : All (HasNoEnd options.line_end) taken
+  pub text_is : text ≡ flat_map (with_end options.line_end) taken
+  pub lines_are : ahead.lines ≡ length taken
+  pub bytes_are : ahead.bytes ≡ length text
+  pub small : offset + ahead.bytes < 2 ^ 64
+  pub some : ahead.found ≡ true → 0 < ahead.bytes
+  pub counted : ahead.count ≡ count_by (counts search options) taken
+  pub stops : (n before : ℕ) → is_enough (limit_of options) before ≡ false → n < length taken
+      → is_enough (limit_of options) (before + count_by (counts search options) (take n taken)) ≡ false
+  pub out : List ℕ
+  pub writes : Appends written now out
+  pub printed : PrintsUnlessSilent (is_silent options) search options name (lines + 1) offset taken out
+  pub not_enough : ahead.found ≡ false → (before : ℕ) → is_enough (limit_of options) before ≡ false
+      → is_enough (limit_of options) (before + ahead.count) ≡ false

@@ -1,0 +1,109 @@
+//! Handles lines where they are buffered, without a copy of them.
+ghost use Rattle.std.specs.Prelude.{◌≡◌, ◌≤◌, [], IfErr, IfOk, OnOk, if◌then◌else◌, false, length, take};
+ghost use Rattle.std.specs.Io.KnownBytes.{Appends};
+ghost use Rattle.literal_base.specs.declared.packed.MatchKind.TheVariants.{LeftmostLongest};
+ghost use Rattle.litscan.specs.Fault.{IsWriteFault};
+ghost use Rattle.litscan.specs.Inside.Passed.{PassesOthers, TakesLines, prints_others};
+
+use crate::device::{Device, flush_line};
+use crate::fault::Fault;
+use crate::options::Options;
+use crate::passed::look_ahead;
+use crate::scan::{offsets_behind, prints_nothing, take_line};
+use literal_search::Search;
+use std::io::Write;
+
+/// Whole lines that were handled where they are buffered.
+#[derive(Clone, Copy)]
+pub struct Ahead {
+    /// How many they are.
+    pub lines: usize,
+    /// Their length in bytes, with their ends.
+    pub bytes: usize,
+    /// How many of them are selected.
+    pub count: u64,
+    /// Whether the last one has a match. If not, no whole line after them is known to have one.
+    pub found: bool,
+}
+
+impl Ahead {
+    /// No line was handled.
+    pub fn none() -> Ahead
+        ensures { result ≡ record { lines = 0; bytes = 0; count = 0; found = false } }
+    {
+        Ahead {
+            lines: 0,
+            bytes: 0,
+            count: 0,
+            found: false,
+        }
+    }
+}
+
+/// Handles the lines before the first match in buffered bytes, which begin at this offset after so many lines, and the
+/// line of that match if it is there as a whole. Handles none if the offset after the bytes reaches 2^64. With `-v` the
+/// lines before the match are printed at once.
+pub fn take_buffered<W: Write>(
+    search: &Search,
+    options: Options,
+    name: &[u8],
+    lines: u64,
+    offset: u64,
+    bytes: &[u8],
+    writer: &mut Device<W>,
+) -> Result<Ahead, Fault>
+    requires longest { search.now.query.kind ≡ LeftmostLongest }
+    requires plain { PassesOthers options }
+    requires few { lines ≤ offset }
+    ensures takes { IfOk result (λ ahead. TakesLines search.now options name.now lines offset ahead
+        (take ahead.bytes bytes.now) (W.contents writer.old.inner) (W.contents writer.new.inner)) }
+    ensures inside { IfOk result (λ ahead. ahead.bytes ≤ length bytes.now) }
+    ensures error { IfErr result (IsWriteFault writer.new.failure) }
+{
+    let Some(_) = offsets_behind(offset, 0, bytes) else {
+        return Ok(Ahead::none());
+    };
+    let passed = look_ahead(options.line_end, search, bytes);
+    let others = take_others(options, passed.lines, &bytes[..passed.bytes], writer)?;
+    let Some(len) = passed.next else {
+        return Ok(Ahead {
+            lines: passed.lines,
+            bytes: passed.bytes,
+            count: others,
+            found: false,
+        });
+    };
+    let line = &bytes[passed.bytes..passed.bytes + len];
+    let number = lines + passed.lines as u64 + 1;
+    let start = offset + passed.bytes as u64;
+    let count = take_line(true, search, options, name, number, start, line, writer)?;
+    flush_line(options, writer)?;
+    Ok(Ahead {
+        lines: passed.lines + 1,
+        bytes: passed.bytes + len + 1,
+        count: others + count,
+        found: true,
+    })
+}
+
+/// Prints whole lines that contain no word, if they are requested, and returns how many are selected.
+fn take_others<W: Write>(
+    options: Options,
+    lines: usize,
+    bytes: &[u8],
+    writer: &mut Device<W>,
+) -> Result<u64, Fault>
+    ensures count { IfOk result (λ count. count ≡ (if options.others then lines else 0)) }
+    ensures written { OnOk result (Appends (W.contents writer.old.inner) (W.contents writer.new.inner)
+        (if prints_others options then bytes.now else [])) }
+    ensures error { IfErr result (IsWriteFault writer.new.failure) }
+{
+    if !options.others {
+        return Ok(0);
+    }
+    if !prints_nothing(options) {
+        writer.write_all(bytes)?;
+        flush_line(options, writer)?;
+    }
+    Ok(lines as u64)
+}
