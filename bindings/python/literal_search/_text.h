@@ -24,6 +24,8 @@ typedef struct {
     Py_buffer buffer; /* its buffer, unless it is a str */
     PyObject *encoded; /* the bytes of a str with a lone surrogate, or NULL */
     PyObject *folded;  /* the folded bytes of a str, or NULL */
+    PyObject *aside;   /* the bytes of the sides, or NULL */
+    const uint8_t *sides; /* those that are looked up next to a whole word, or NULL for those that are searched */
     const uint8_t *bytes, *shown; /* those that are searched, and those of the text itself: two arrays if it is folded */
     size_t len;
     bool is_str;
@@ -129,7 +131,8 @@ static int hold_str(Text *text, PyObject *of, bool folds) {
 /* Holds a text, of the type that is taken. */
 static int hold(Text *text, Takes takes, PyObject *of) {
     bool is_str = PyUnicode_Check(of);
-    text->of = text->buffer.obj = text->encoded = text->folded = NULL;
+    text->of = text->buffer.obj = text->encoded = text->folded = text->aside = NULL;
+    text->sides = NULL;
     text->is_str = is_str;
     text->is_wide = false;
     if (takes == NOT_PREPARED)
@@ -149,6 +152,7 @@ static void give_back(Text *text) {
         PyBuffer_Release(&text->buffer);
     Py_CLEAR(text->encoded);
     Py_CLEAR(text->folded);
+    Py_CLEAR(text->aside);
     Py_CLEAR(text->of);
 }
 
@@ -192,6 +196,37 @@ static size_t byte_of(const Text *text, Place *place, size_t offset) {
         place->offset += begins;
     }
     return place->byte;
+}
+
+/* The byte for each byte of a character: it is one of `\w` exactly if the character is, as `re` takes it. */
+static uint8_t side_of(Py_UCS4 character) {
+    return character < 0x80 ? (uint8_t)character : Py_UNICODE_ISALNUM(character) ? 'a' : ' ';
+}
+
+/* Makes the sides of a str with characters beyond ASCII, from the character before a place up to the one at byte `last`:
+ * no search between the two looks up others. */
+static int take_sides(Text *text, Place at, size_t last) {
+    if (!text->is_wide)
+        return 0;
+    text->aside = PyBytes_FromStringAndSize(NULL, (Py_ssize_t)text->len);
+    if (!text->aside)
+        return -1;
+    uint8_t *sides = (uint8_t *)PyBytes_AS_STRING(text->aside);
+    int kind = PyUnicode_KIND(text->of);
+    const void *data = PyUnicode_DATA(text->of);
+    for (bool goes_on = at.offset > 0; goes_on; goes_on = (text->bytes[at.byte] & 0xC0) == 0x80)
+        at.byte--;
+    at.offset -= at.offset > 0;
+    PyThreadState *state = let_others_run(last - at.byte);
+    for (; at.byte <= last && at.byte < text->len; at.offset++) {
+        uint8_t side = side_of(PyUnicode_READ(kind, data, at.offset));
+        do
+            sides[at.byte++] = side;
+        while (at.byte < text->len && (text->bytes[at.byte] & 0xC0) == 0x80);
+    }
+    come_back(state);
+    text->sides = sides;
+    return 0;
 }
 
 /* An offset as it stands in a slice. */

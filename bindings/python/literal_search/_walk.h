@@ -114,8 +114,8 @@ static int find_first_word(const Prepared *search, const Text *text, size_t at, 
     while (at < end) {
         size_t cut = cut_piece(search, at, end, &piece_end);
         PyThreadState *state = let_others_run(piece_end - at);
-        int32_t status = literal_find_word_in((uint32_t)search->kind, words, words_len, text->bytes, text->len, at,
-                                              piece_end, found);
+        int32_t status = literal_find_word_by_sides_in((uint32_t)search->kind, words, words_len, text->bytes, text->len,
+                                                       text->sides, text->sides ? text->len : 0, at, piece_end, found);
         come_back(state);
         if (status != LITERAL_OK && status != LITERAL_NONE)
             return refuse(status);
@@ -159,7 +159,8 @@ static int walk_begin(Walk *walk, Prepared *search, bool for_all, PyObject *cons
     if (hold(&walk->text, search->takes, asked[0]))
         return -1;
     if ((for_all && prepare_for_all(search)) ||
-        bounds(&walk->text, asked[1], asked[2], &walk->place, &walk->end)) {
+        bounds(&walk->text, asked[1], asked[2], &walk->place, &walk->end) ||
+        (search->whole_words && take_sides(&walk->text, walk->place, walk->end))) {
         give_back(&walk->text);
         return -1;
     }
@@ -236,8 +237,9 @@ static int matches_of_piece(Walk *walk) {
     int32_t status;
     PyThreadState *state = let_others_run(piece_end - walk->at);
     if (walk->search->whole_words)
-        status = literal_find_all_words_in((uint32_t)walk->search->kind, words, words_len, text->bytes, text->len,
-                                           walk->at, piece_end, walk->matches, walk->room, &page);
+        status = literal_find_all_words_by_sides_in((uint32_t)walk->search->kind, words, words_len, text->bytes,
+                                                    text->len, text->sides, text->sides ? text->len : 0, walk->at,
+                                                    piece_end, walk->matches, walk->room, &page);
     else
         status = literal_find_all_in(words, words_len, text->bytes, text->len, walk->at, piece_end, walk->matches,
                                      walk->room, &page);
