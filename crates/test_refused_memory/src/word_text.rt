@@ -43,7 +43,9 @@ fn find_text_all_of_a_word_text(rt: HostRuntime) -> Result<(), AllocError> {
         Ok(all) => all,
         Err(_) => {
             assert_finds(&rt, &search, &text);
-            search.find_text_all(&text).expect(&rt, "it was refused again")
+            search
+                .find_text_all(&text)
+                .expect(&rt, "it was refused again")
         }
     };
     assert_place(&rt, all.first().copied(), 1, (6, 9));

@@ -10,7 +10,13 @@ use std::test::Fail;
 fn example_of_a_word_text(rt: HostRuntime) -> Result<(), Fail> {
     let alloc = rt.alloc();
     let set = WholeWords::ascii_word_bytes();
-    let search = WholeWords::new(alloc, MatchKind::LeftmostFirst, false, set, [b"lan".as_slice()])?;
+    let search = WholeWords::new(
+        alloc,
+        MatchKind::LeftmostFirst,
+        false,
+        set,
+        [b"lan".as_slice()],
+    )?;
     let text = WordText::new(alloc, "élan, lan")?;
     let found = search.find_text(&text).ok_or("nothing is found")?;
     assert!(rt; found.range() == (7..10));
@@ -33,9 +39,11 @@ fn tells_word_characters_beyond_ascii(rt: HostRuntime) -> Result<(), Fail> {
     Ok(())
 }
 
-/// The first word of a text, by each call for a span of it.
-fn in_span(search: &WholeWords, text: &WordText<'_>, span: Span) -> [Option<Match>; 4] {
-    let tally = &mut Tally::new();
+/// The first word of a text from an offset on, by each call for a span of it.
+fn from(search: &WholeWords, text: &WordText<'_>, start: usize) -> [Option<Match>; 4] {
+    let (end, tally) = (text.as_bytes().len(), &mut Tally::new());
+    let start = start.min(end);
+    let span = Span { start, end };
     [
         search.find_text_in(text, span),
         search.find_text_in_counted(text, span, tally),
@@ -56,8 +64,8 @@ fn finds_whole_words_in_a_text(rt: HostRuntime) -> Result<(), Fail> {
     let search = word(rt.alloc())?;
     let text = WordText::new(rt.alloc(), TEXT)?;
     let second = Match::must(0, SECOND);
-    assert!(rt; in_span(&search, &text, Span { start: 2, end: 17 }) == [Some(second); 4]);
-    assert!(rt; in_span(&search, &text, Span { start: 7, end: 17 }) == [None; 4]);
+    assert!(rt; from(&search, &text, 2) == [Some(second); 4]);
+    assert!(rt; from(&search, &text, 7) == [None; 4]);
     assert!(rt; search.find_text_iter(&text).next() == Some(second));
     assert!(rt; search.find_text_all(&text)?.as_slice() == [second].as_slice());
     Ok(())
@@ -75,13 +83,20 @@ fn filled(alloc: Global) -> Result<Vec<u32>, Fail> {
 fn by_array(array: &[u32], sides: &[u8; 17]) -> Result<[Option<Match>; 4], Damaged> {
     let (kind, set) = (MatchKind::LeftmostFirst, WholeWords::ascii_word_bytes());
     let words = PreparedWords::new(Prepared::new(array)?, kind, set);
-    let (haystack, span) = (b"\xC3\xA9lan lan\xE2\x86\x92lan\xC2\xB2", Span { start: 0, end: 17 });
+    let (haystack, span) = (
+        b"\xC3\xA9lan lan\xE2\x86\x92lan\xC2\xB2",
+        Span { start: 0, end: 17 },
+    );
     let tally = &mut Tally::new();
     Ok([
         words.find_in_by_sides(haystack, sides, span)?,
         words.find_in_by_sides_counted(haystack, sides, span, tally)?,
-        words.find_iter_in_by_sides(haystack, sides, span).next_match()?,
-        words.find_iter_in_by_sides(haystack, sides, span).next_counted(tally)?,
+        words
+            .find_iter_in_by_sides(haystack, sides, span)
+            .next_match()?,
+        words
+            .find_iter_in_by_sides(haystack, sides, span)
+            .next_counted(tally)?,
     ])
 }
 
