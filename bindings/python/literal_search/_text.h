@@ -18,6 +18,12 @@ enum { SHORT = 1 << 12 /* bytes whose search takes less time than it takes to le
 /* Of which type the texts of a searcher are, as its patterns are. TAKES_FOLDED: they are str, and are folded. */
 typedef enum { NOT_PREPARED, TAKES_EITHER, TAKES_BYTES, TAKES_STR, TAKES_FOLDED } Takes;
 
+/* A place in a text: how many bytes, and how many of what its offsets count, stand before it. */
+typedef struct {
+    size_t byte;
+    size_t offset;
+} Place;
+
 /* A text that is held, and its bytes. */
 typedef struct {
     PyObject *of;     /* the text, or NULL once it is given back */
@@ -25,18 +31,13 @@ typedef struct {
     PyObject *encoded; /* the bytes of a str with a lone surrogate, or NULL */
     PyObject *folded;  /* the folded bytes of a str, or NULL */
     PyObject *aside;   /* the bytes of the sides, or NULL */
-    const uint8_t *sides; /* those that are looked up next to a whole word, or NULL for those that are searched */
+    uint8_t *sides;    /* those that are looked up next to a whole word, or NULL for those that are searched */
+    Place made;        /* up to where the sides are made */
     const uint8_t *bytes, *shown; /* those that are searched, and those of the text itself: two arrays if it is folded */
     size_t len;
     bool is_str;
     bool is_wide; /* whether it is a str in which a character has more than one byte */
 } Text;
-
-/* A place in a text: how many bytes, and how many of what its offsets count, stand before it. */
-typedef struct {
-    size_t byte;
-    size_t offset;
-} Place;
 
 /* Whether a buffer's items are, or hold, objects: their bytes are addresses. */
 static bool has_objects(const char *format) {
@@ -203,30 +204,36 @@ static uint8_t side_of(Py_UCS4 character) {
     return character < 0x80 ? (uint8_t)character : Py_UNICODE_ISALNUM(character) ? 'a' : ' ';
 }
 
-/* Makes the sides of a str with characters beyond ASCII, from the character before a place up to the one at byte `last`:
- * no search between the two looks up others. */
-static int take_sides(Text *text, Place at, size_t last) {
+/* Makes room for the sides of a str with characters beyond ASCII, from the character before a place on: a search that
+ * begins there looks up none before. */
+static int begin_sides(Text *text, Place at) {
     if (!text->is_wide)
         return 0;
     text->aside = PyBytes_FromStringAndSize(NULL, (Py_ssize_t)text->len);
     if (!text->aside)
         return -1;
-    uint8_t *sides = (uint8_t *)PyBytes_AS_STRING(text->aside);
-    int kind = PyUnicode_KIND(text->of);
-    const void *data = PyUnicode_DATA(text->of);
+    text->sides = (uint8_t *)PyBytes_AS_STRING(text->aside);
     for (bool goes_on = at.offset > 0; goes_on; goes_on = (text->bytes[at.byte] & 0xC0) == 0x80)
         at.byte--;
     at.offset -= at.offset > 0;
-    PyThreadState *state = let_others_run(last - at.byte);
+    text->made = at;
+    return 0;
+}
+
+/* Makes the sides up to the one at byte `last`, if there are any: a search that ends there looks up none behind it. */
+static void make_sides(Text *text, size_t last) {
+    if (!text->sides)
+        return;
+    Place at = text->made;
+    int kind = PyUnicode_KIND(text->of);
+    const void *data = PyUnicode_DATA(text->of);
     for (; at.byte <= last && at.byte < text->len; at.offset++) {
         uint8_t side = side_of(PyUnicode_READ(kind, data, at.offset));
         do
-            sides[at.byte++] = side;
+            text->sides[at.byte++] = side;
         while (at.byte < text->len && (text->bytes[at.byte] & 0xC0) == 0x80);
     }
-    come_back(state);
-    text->sides = sides;
-    return 0;
+    text->made = at;
 }
 
 /* An offset as it stands in a slice. */

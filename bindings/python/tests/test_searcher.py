@@ -489,6 +489,15 @@ class Words(unittest.TestCase):
             for cut in range(1_048_570, 1_048_582):
                 self.assertEqual(searcher.findall(b" " * cut + b"abc d"), [(words.index(b"abc d"), cut, cut + 5)])
 
+    def test_long_texts_beyond_ascii(self):
+        searcher = Search(["abc d", "ab"], whole_words=True)
+        for piece in (4096, 3 * 4096, 7 * 4096, 2**20):
+            for spaces in range(piece - 10, piece + 4):
+                text = "é" + " " * spaces
+                self.assertEqual(searcher.find(text + "abc dé abc d"), (0, spaces + 8, spaces + 13))
+                self.assertEqual(searcher.findall(text + "éab ab→ab²"), [(1, spaces + 5, spaces + 7)])
+                self.assertEqual(searcher.find(text + "→ab→" + "é" * 9000, 9), (1, spaces + 2, spaces + 4))
+
     def test_copies(self):
         searcher = Search(["ab", "a"], LONGEST, True, True)
         self.assertEqual(repr(searcher), "Search(['ab', 'a'], Kind.LEFTMOST_LONGEST, ignore_case=True, whole_words=True)")
