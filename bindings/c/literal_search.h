@@ -392,6 +392,24 @@ int32_t literal_find_all_words_in(uint32_t kind, const uint32_t *prepared, size_
 int32_t literal_count_words_in(uint32_t kind, const uint32_t *prepared, size_t prepared_len, const uint8_t *haystack,
                                size_t haystack_len, size_t start, size_t end, size_t *count);
 
+/* The same three calls for word characters of the caller's choice. `sides` has a byte for each byte of the haystack, and
+ * is looked up in its place next to an occurrence: an ASCII letter, a digit or an underscore means that the byte of the
+ * haystack belongs to a word character. For UTF-8, copy the ASCII characters, write 'a' for each byte of another
+ * character if it is a letter or a digit, and ' ' otherwise. Only the sides from the byte before start up to the one at
+ * end are read. With NULL and 0, the calls are those above.
+ *
+ * LITERAL_BAD_ARGUMENTS  also if sides_len is neither haystack_len nor 0 */
+int32_t literal_find_word_by_sides_in(uint32_t kind, const uint32_t *prepared, size_t prepared_len,
+                                      const uint8_t *haystack, size_t haystack_len, const uint8_t *sides,
+                                      size_t sides_len, size_t start, size_t end, literal_match *found);
+int32_t literal_find_all_words_by_sides_in(uint32_t kind, const uint32_t *prepared, size_t prepared_len,
+                                           const uint8_t *haystack, size_t haystack_len, const uint8_t *sides,
+                                           size_t sides_len, size_t start, size_t end, literal_match *found,
+                                           size_t found_len, literal_page *page);
+int32_t literal_count_words_by_sides_in(uint32_t kind, const uint32_t *prepared, size_t prepared_len,
+                                        const uint8_t *haystack, size_t haystack_len, const uint8_t *sides,
+                                        size_t sides_len, size_t start, size_t end, size_t *count);
+
 /* What follows is defined here, in C, and uses only the functions above. */
 
 /* What a status says, in a few words. */

@@ -59,10 +59,10 @@ class Search(_native.Prepared[AnyStr]):
     call folds a copy of its text. In bytes, and with `ignore_case="ascii"` in a str too, A to Z equal a to z, and all
     else is compared as it is.
 
-    With `whole_words` it finds a pattern only with no word character right before it and none right after it: A to Z, a
-    to z, 0 to 9 and the underscore, in a str too. The characters outside of text[start:end] count too. A pattern that is
-    no whole word hides no other one. Such a searcher has no calls for overlapping or earliest occurrences, nor for
-    streams: they raise ValueError.
+    With `whole_words` it finds a pattern only with no word character right before it and none right after it: what `\\w`
+    of `re` matches, in a str any letter or digit and the underscore, in bytes those of ASCII alone. The characters
+    outside of text[start:end] count too. A pattern that is no whole word hides no other one. Such a searcher has no
+    calls for overlapping or earliest occurrences, nor for streams: they raise ValueError.
 
     A pickle by protocol 5 has the prepared search too, out of band if a `buffer_callback` is given. The same version of
     the package then builds nothing. A pickle by an earlier protocol has the patterns alone.

@@ -80,7 +80,8 @@ static PyObject *first_of(Prepared *self, PyObject *const *given, Py_ssize_t cou
     literal_match found;
     if (arguments(OF_SEARCH, 1, given, count, names, asked) || hold(&text, self->takes, asked[0]))
         return NULL;
-    if (!(wanted == THE_EARLIEST && prepare_for_all(self)) && !bounds(&text, asked[1], asked[2], &place, &end)) {
+    if (!(wanted == THE_EARLIEST && prepare_for_all(self)) && !bounds(&text, asked[1], asked[2], &place, &end) &&
+        !(self->whole_words && begin_sides(&text, place))) {
         int is_found = wanted == THE_EARLIEST ? find_earliest(self, &text, place.byte, end, &found)
                        : self->whole_words    ? find_first_word(self, &text, place.byte, end, &found)
                                               : find_first(self, &text, place.byte, end, &found);

@@ -44,4 +44,5 @@ pub mod Texts
 pub mod Unmarked
 pub mod Walk
 pub mod WholeWords
+pub mod WordText
 pub mod Written

@@ -1,4 +1,3 @@
-pub mod SearchValue
 pub mod At
 pub mod Automaton
 pub mod Earliest
@@ -14,8 +13,10 @@ pub mod PreparedOverlapping
 pub mod PreparedWords
 pub mod Replaced
 pub mod SearchBuilderValue
+pub mod SearchValue
 pub mod States
 pub mod Stream
 pub mod Table
 pub mod WholeWords
+pub mod WordText
 pub mod Words

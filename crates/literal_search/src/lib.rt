@@ -38,6 +38,7 @@ mod walk;
 mod whole_words;
 mod window;
 mod word_search;
+mod word_text;
 
 pub use automaton::{Automaton, State};
 pub use builder::SearchBuilder;
@@ -52,7 +53,7 @@ pub use patterns::Patterns;
 pub use prepared::{ArrayTooShort, Damaged};
 pub use prepared_overlapping::{PreparedOverlapping, PreparedOverlappingMatches};
 pub use prepared_search::{Prepared, PreparedMatches};
-pub use prepared_words::{PreparedWordMatches, PreparedWords};
+pub use prepared_words::{PreparedWordMatches, PreparedWordMatchesBySides, PreparedWords};
 pub use replace::ReplaceError;
 pub use replace_stream::ReplaceStreamError;
 pub use search::{Matches, Search, Starts};
@@ -61,6 +62,7 @@ use std::error::Error;
 use std::fmt;
 pub use stream::{SoFar, StreamMatches};
 pub use whole_words::{WholeWordMatches, WholeWords};
+pub use word_text::{WordMatchesBySides, WordText};
 
 /// Why no search is built for some patterns.
 #[derive(Clone, Copy, Debug, PartialEq, Eq, Drop)]

@@ -25,3 +25,5 @@ mod searches;
 mod streams;
 #[cfg(test)]
 mod whole_words;
+#[cfg(test)]
+mod word_text;
