@@ -41,6 +41,9 @@ mod prepared_tests;
 mod resumed;
 mod so_far;
 #[cfg(test)]
+mod state_tests;
+mod states;
+#[cfg(test)]
 mod tests;
 #[cfg(test)]
 mod word_tests;
@@ -56,6 +59,10 @@ pub use occurrences::{
 };
 use pieces::{Pieces, are_ends};
 use so_far::{find_so_far, tell_so_far};
+pub use states::{
+    LITERAL_MATCH_STATE, LITERAL_START_STATE, literal_next_state_in, literal_patterns_at_in,
+    literal_walk_in,
+};
 use std::alloc::Global;
 use words::{count_words, words_in, write_words};
 
