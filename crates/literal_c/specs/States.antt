@@ -1,6 +1,6 @@
 -- States of the automaton in an array for every occurrence, for loops in C.
-use Rattle.std.specs.Prelude.{◌≡◌, ◌⊎◌, ℕ, ℤ, ◌++◌, ◌-◌, ◌<◌, ◌≤◌, List, drop, length, slice_range, take}
-use Rattle.literal_base.specs.Occurs.{between, whole_of}
+use Rattle.std.specs.Prelude.{◌≡◌, ◌⊎◌, ℕ, ℤ, ◌++◌, ◌-◌, ◌<◌, List, drop, length, slice_range, take}
+use Rattle.literal_base.specs.Occurs.{whole_of}
 use Rattle.literal_search.specs.Automaton.{AreAtEnd, IsStateAfter}
 use Rattle.literal_search.specs.Overlapping.{OverlappingValue}
 use Rattle.literal_search.specs.PreparedOverlapping.{ForOverlapping, HasLists, tables_in}

@@ -14,6 +14,11 @@ HasRow numbers state = state % 2 ^ 31 < length (rows_in numbers)
 abbrev pub EndsAfter : Tables → List ℕ → List ℕ → ℕ → ℕ → Type 0
 EndsAfter t text haystack start end = (i : ℕ) × EndsText t (text ++ slice_range haystack start end) i
 
+-- a walk has stopped in the span: after at least one byte where a pattern ends, or else at its end
+abbrev pub StopsIn : Span → Walked → Type 0
+StopsIn span walked = (walked.at ≤ span.end) × (((walked.is_match ≡ true) × (span.start < walked.at))
+    ⊎ ((walked.is_match ≡ false) × (walked.at ≡ span.end)))
+
 -- the bytes of a span have followed a text: up to the first offset at which a pattern ends, or all of them if none does
 pub record IsWalked (t : Tables) (text haystack : List ℕ) (span : Span) (walked : Walked) : Type 0 where
   pub inside : walked.at ≤ span.end

@@ -1,5 +1,5 @@
 //! Steps through the automaton of a prepared search for every occurrence. The array is not trusted.
-ghost use Rattle.std.specs.Prelude.{◌≡◌, ◌⊎◌, ◌↔◌, ◌+◌, ◌-◌, ◌%◌, ◌^◌, ◌<◌, ◌≤◌, ◌++◌, ◌∷◌, [], ℕ, List, length};
+ghost use Rattle.std.specs.Prelude.{◌≡◌, ◌↔◌, ◌+◌, ◌-◌, ◌%◌, ◌^◌, ◌<◌, ◌≤◌, ◌++◌, ◌∷◌, [], ℕ, List, length};
 ghost use Rattle.std.specs.Prelude.{IfOk, IsTrue, MatchResult};
 ghost use Rattle.std.specs.Result.{IsOkAnd};
 ghost use Rattle.literal_base.specs.Occurs.{IsValidSpan, whole_of};
@@ -7,7 +7,7 @@ ghost use Rattle.literal_search.specs.Automaton.{AreAtEnd, EndsText, IsStateAfte
 ghost use Rattle.literal_search.specs.Inside.Walk.{classes_by, rows_by};
 ghost use Rattle.literal_search.specs.Prepared.{classes_in, rows_in, width_in};
 ghost use Rattle.literal_search.specs.PreparedOverlapping.{ForOverlapping, tables_in};
-ghost use Rattle.literal_search.specs.PreparedStates.{HasRow, IsWalked};
+ghost use Rattle.literal_search.specs.PreparedStates.{HasRow, IsWalked, StopsIn};
 
 use crate::automaton::State;
 use crate::classes::CLASSES_LEN;
@@ -59,8 +59,7 @@ impl<'p> PreparedOverlapping<'p> {
             → IsStateAfter (tables_in search self.now) text state
             → IsOkAnd result (IsWalked (tables_in search self.now) text haystack.now span)) }
         ensures row { IfOk result (λ _. HasRow self.now state) }
-        ensures inside { IfOk result (λ walked. (walked.at ≤ span.end)
-            × ((span.start < walked.at) ⊎ ((walked.at ≡ span.end) × (walked.at ≡ span.start)))) }
+        ensures inside { IfOk result (StopsIn span) }
     {
         self.walk_counted(state, haystack, span, &mut Tally::new())
     }
@@ -79,8 +78,7 @@ impl<'p> PreparedOverlapping<'p> {
             → IsStateAfter (tables_in search self.now) text state
             → IsOkAnd result (IsWalked (tables_in search self.now) text haystack.now span)) }
         ensures row { IfOk result (λ _. HasRow self.now state) }
-        ensures inside { IfOk result (λ walked. (walked.at ≤ span.end)
-            × ((span.start < walked.at) ⊎ ((walked.at ≡ span.end) × (walked.at ≡ span.start)))) }
+        ensures inside { IfOk result (StopsIn span) }
         ensures others { tally.new ≡ record tally.old { scanned = tally.new.scanned } }
         ensures scanned { IfOk result (λ walked. tally.new.scanned + span.start ≡ tally.old.scanned + walked.at) }
         ensures most { tally.new.scanned ≤ tally.old.scanned + (span.end - span.start) }
