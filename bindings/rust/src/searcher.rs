@@ -8,7 +8,7 @@ use crate::pieces::Pieces;
 use crate::stream::{Room, MOST};
 use crate::{
     AhoCorasickBuilder, AhoCorasickKind, Anchored, BuildError, FindIter, Input, Match, MatchError, MatchErrorKind,
-    MatchKind, Span, StartKind,
+    MatchKind, PatternID, Span, StartKind,
 };
 use alloc::sync::Arc;
 use core::fmt;
@@ -33,8 +33,8 @@ pub(crate) struct Parts {
     pub leftmost: Leftmost,
     /// Whether an iteration picks its matches from every occurrence, by the standard kind alone.
     pub is_picked: bool,
-    /// The patterns, by the standard kind alone: `every` is built of them.
-    pub pieces: Option<Pieces>,
+    /// The patterns. By the standard kind `every` is built of them.
+    pub pieces: Pieces,
     /// The array for every occurrence, by the standard kind alone.
     pub every: Lazy<Prepared>,
 }
@@ -331,9 +331,11 @@ impl AhoCorasick {
     }
 
     /// The search for every occurrence, which the first call builds.
-    fn every(&self) -> Result<Every<'_>, MatchError> {
+    pub(crate) fn every(&self) -> Result<Every<'_>, MatchError> {
         let Parts { kind, ignore_case, longest, ref pieces, ref every, .. } = *self.parts;
-        let pieces = pieces.as_ref().ok_or_else(|| MatchError::unsupported_overlapping(kind))?;
+        if kind != MatchKind::Standard {
+            return Err(MatchError::unsupported_overlapping(kind));
+        }
         let built = every.get_or_try(|| Prepared::overlapping(ignore_case, pieces));
         let prepared = built.map_err(|why| MatchError::new(MatchErrorKind::NotBuilt { why }))?;
         Ok(Every { prepared, longest })
@@ -383,6 +385,11 @@ impl AhoCorasick {
         self.parts.patterns_len
     }
 
+    /// The length of a pattern, by its number.
+    pub(crate) fn pattern_len(&self, pattern: PatternID) -> usize {
+        self.parts.pieces.get(pattern.as_u32()).len()
+    }
+
     /// The length of the shortest pattern, and 0 without patterns.
     pub fn min_pattern_len(&self) -> usize {
         self.parts.shortest
@@ -396,9 +403,8 @@ impl AhoCorasick {
     /// How many bytes the searcher takes in memory, with the array for every occurrence once that is built.
     pub fn memory_usage(&self) -> usize {
         let Parts { leftmost, pieces, every, .. } = &*self.parts;
-        let standard = pieces.as_ref().map_or(0, Pieces::memory_usage);
         let every = every.get().map_or(0, |it| core::mem::size_of::<Prepared>() + it.memory_usage());
-        core::mem::size_of::<Parts>() + leftmost.memory_usage() + standard + every
+        core::mem::size_of::<Parts>() + leftmost.memory_usage() + pieces.memory_usage() + every
     }
 }
 
