@@ -2,14 +2,14 @@
 import ctypes
 import random
 import struct
-import sys
 import unittest
 
 from literal_search import Search
 
 RELEASE = ctypes.CFUNCTYPE(None, ctypes.c_void_p)
+DESTROY, DESTROYED = ctypes.PYFUNCTYPE(None, ctypes.c_void_p), []
 NEW_CAPSULE = ctypes.pythonapi.PyCapsule_New
-NEW_CAPSULE.argtypes, NEW_CAPSULE.restype = (ctypes.c_void_p, ctypes.c_char_p, ctypes.c_void_p), ctypes.py_object
+NEW_CAPSULE.argtypes, NEW_CAPSULE.restype = (ctypes.c_void_p, ctypes.c_char_p, DESTROY), ctypes.py_object
 
 
 class Schema(ctypes.Structure):
@@ -28,6 +28,12 @@ class Array(ctypes.Structure):
 @RELEASE
 def nothing(_):
     """The memory belongs to the column, which outlives its capsules here."""
+
+
+@DESTROY
+def destroyed(_):
+    """Called with each capsule that is gone."""
+    DESTROYED.append(None)
 
 
 class Column:
@@ -51,7 +57,7 @@ class Column:
 
     def __arrow_c_array__(self, requested_schema=None):
         structs = zip((self.schema, self.array), self.names)
-        return tuple(NEW_CAPSULE(ctypes.addressof(it), name, None) for it, name in structs)
+        return tuple(NEW_CAPSULE(ctypes.addressof(it), name, destroyed) for it, name in structs)
 
 
 class Columns(unittest.TestCase):
@@ -169,11 +175,15 @@ class Columns(unittest.TestCase):
             Search(["a"]).find_each(column)
 
     def test_capsules_are_let_go(self):
-        column = Column(["a", "b"], b"u")
-        before = sys.getrefcount(column)
-        for _ in range(100):
-            Search(["a"]).find_each(column)
-        self.assertEqual(sys.getrefcount(column), before)
+        column, searcher = Column(["a", "b"], b"u"), Search(["a"])
+        for call in searcher.find_each, searcher.count_each, searcher.findall_each:
+            before = len(DESTROYED)
+            call(column)
+            self.assertEqual(len(DESTROYED), before + 2)
+        before = len(DESTROYED)
+        with self.assertRaises(TypeError):
+            searcher.count_each(Column(["a"], b"i"))
+        self.assertEqual(len(DESTROYED), before + 2)
 
 
 if __name__ == "__main__":

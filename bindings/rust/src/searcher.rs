@@ -3,6 +3,7 @@ use crate::lazy::Lazy;
 use crate::leftmost::Leftmost;
 use crate::library::Prepared;
 use crate::occurrences::{Every, FindOverlappingIter, OverlappingState};
+use crate::picking::Picking;
 use crate::pieces::Pieces;
 #[cfg(feature = "std")]
 use crate::stream::{Room, MOST};
@@ -33,9 +34,9 @@ pub(crate) struct Parts {
     pub leftmost: Leftmost,
     /// Whether an iteration picks its matches from every occurrence, by the standard kind alone.
     pub is_picked: bool,
-    /// The patterns. By the standard kind `every` is built of them.
+    /// The patterns, of which `every` is built.
     pub pieces: Pieces,
-    /// The array for every occurrence, by the standard kind alone.
+    /// The array for every occurrence. By a leftmost kind matches of long patterns may be picked from them.
     pub every: Lazy<Prepared>,
 }
 
@@ -181,8 +182,23 @@ impl AhoCorasick {
             // (the builder built the array)
             FindIter::picked(FindOverlappingIter::new(done(self.every()), &input))
         } else {
-            FindIter::pages(&self.parts.leftmost, input.haystack(), input.searched())
+            let pages = FindIter::pages(&self.parts.leftmost, input.haystack(), input.searched());
+            if self.parts.leftmost.is_fast() {
+                return pages;
+            }
+            FindIter::long(self, pages)
         }
+    }
+
+    /// Whether so many matches in so many bytes lie so close together that it takes less to pick them from every
+    /// occurrence, of which each byte may end one for each pattern, than to search anew after each match.
+    pub(crate) fn are_close(&self, count: usize, len: usize) -> bool {
+        self.parts.patterns_len.saturating_mul(len) <= self.parts.longest.saturating_mul(count)
+    }
+
+    /// The matches by a leftmost kind, picked from every occurrence, unless the array for that can't be built.
+    pub(crate) fn picking<'a, 'h>(&'a self, input: &Input<'h>) -> Option<Picking<'a, 'h>> {
+        Some(Picking::new(self.built().ok()?, self.parts.kind, input))
     }
 
     /// Every occurrence, also overlapping and nested ones: ordered by ends, at one end the longest first, and of equal
@@ -332,12 +348,16 @@ impl AhoCorasick {
 
     /// The search for every occurrence, which the first call builds.
     pub(crate) fn every(&self) -> Result<Every<'_>, MatchError> {
-        let Parts { kind, ignore_case, longest, ref pieces, ref every, .. } = *self.parts;
-        if kind != MatchKind::Standard {
-            return Err(MatchError::unsupported_overlapping(kind));
+        if self.parts.kind != MatchKind::Standard {
+            return Err(MatchError::unsupported_overlapping(self.parts.kind));
         }
-        let built = every.get_or_try(|| Prepared::overlapping(ignore_case, pieces));
-        let prepared = built.map_err(|why| MatchError::new(MatchErrorKind::NotBuilt { why }))?;
+        self.built().map_err(|why| MatchError::new(MatchErrorKind::NotBuilt { why }))
+    }
+
+    /// The same by any kind.
+    fn built(&self) -> Result<Every<'_>, BuildError> {
+        let Parts { ignore_case, longest, ref pieces, ref every, .. } = *self.parts;
+        let prepared = every.get_or_try(|| Prepared::overlapping(ignore_case, pieces))?;
         Ok(Every { prepared, longest })
     }
 

@@ -14,7 +14,7 @@ use literal_search::{Damaged, PreparedOverlapping, Span, State};
 pub const LITERAL_START_STATE: u32 = 0;
 
 /// The least number of the states in which a pattern ends.
-pub const LITERAL_MATCH_STATE: u32 = 1 << 31;
+pub const LITERAL_MATCH_STATE: u32 = 2147483648;
 
 /// Tells the state after one more byte of the text after which the state is `state`, by a search that
 /// [`literal_prepare_overlapping`](crate::literal_prepare_overlapping) wrote. The text of
