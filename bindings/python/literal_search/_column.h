@@ -75,12 +75,20 @@ static int read_column(Column *column) {
     return 0;
 }
 
+/* Lets the capsules go. What frees their structs may be any code, so an error is set aside meanwhile. */
+static void give_back_column(Column *column) {
+    PyObject *type, *value, *trace;
+    PyErr_Fetch(&type, &value, &trace);
+    Py_CLEAR(column->lent);
+    PyErr_Restore(type, value, trace);
+}
+
 static int hold_column(Column *column, PyObject *of) {
     column->lent = PyObject_CallMethod(of, "__arrow_c_array__", NULL);
     if (!column->lent)
         return -1;
     if (read_column(column)) {
-        Py_CLEAR(column->lent);
+        give_back_column(column);
         return -1;
     }
     return 0;

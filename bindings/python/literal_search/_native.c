@@ -467,7 +467,7 @@ static PyObject *search_each(PyObject *of, PyObject *given) {
         return NULL;
     if (!check_type(self, &column))
         answer = found_in_each(self, &column, skips, counts);
-    Py_DECREF(column.lent);
+    give_back_column(&column);
     return answer;
 }
 
@@ -629,7 +629,7 @@ static PyObject *module_texts_of(PyObject *unused, PyObject *from) {
     if (hold_column(&column, from))
         return NULL;
     PyObject *texts = texts_of_column(&column);
-    Py_DECREF(column.lent);
+    give_back_column(&column);
     return texts;
 }
 

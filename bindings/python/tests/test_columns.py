@@ -90,7 +90,7 @@ class Columns(unittest.TestCase):
         self.assertEqual(searcher.find_each(Column(texts, b"u"))[0].group(), "ПРИМЕР")
 
     def test_long_texts(self):
-        text = "ab" * 800000
+        text = "x" * (1 << 20) + "ab"
         self.check(Search(["ba", "a"]), [text, "b", "ä" + text], (b"u", b"U"))
         self.check(Search(["ba", "a"], whole_words=True), [text + " ba a"], (b"u",))
 

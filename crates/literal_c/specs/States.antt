@@ -20,8 +20,8 @@ pub record IsStateStatus (array : List ℕ) (state : ℕ) (agree : Type 0) (IsDo
   pub by_array : IsStatusOf (HasLists array) (λ P. ForState array state (λ _ _. P)) agree IsDone status
   pub no_row : agree → ¬ HasRow array state → status ≡ LITERAL_DAMAGED
 
--- a walk from a state has stopped at an offset, in a state: it has read all bytes up to there. With `LITERAL_OK` this is
--- the first offset after the start at which a pattern ends, and with `LITERAL_NONE` it is the end, and there is none
+-- a walk from a state has stopped at an offset, in a state: it has read all bytes up to there. With `LITERAL_OK` this
+-- is the first offset after the start at which a pattern ends, and with `LITERAL_NONE` it is the end, and there is none
 pub record HasStopped (array : List ℕ) (search : OverlappingValue) (text haystack : List ℕ) (start end : ℕ)
     (status : ℤ) (next at : ℕ) : Type 0 where
   pub state : IsStateAfter (tables_in search array) (text ++ slice_range haystack start at) next

@@ -48,8 +48,8 @@ pub fn pages_of_occurrences_go_on()
         → (page.next ≡ found.end) × (written.last ≡ record first { end = found.end; pattern = found.pattern + 1 }) }
 {}
 
-/// By each prepared array the state after the empty text is [`LITERAL_START_STATE`] (`start`). A pattern is a suffix of a
-/// text exactly if the state after it is [`LITERAL_MATCH_STATE`] or more (`ends`).
+/// By each prepared array the state after the empty text is [`LITERAL_START_STATE`] (`start`). A pattern is a suffix of
+/// a text exactly if the state after it is [`LITERAL_MATCH_STATE`] or more (`ends`).
 pub fn states_tell_whether_a_pattern_ends()
     ensures start { (array : List ℕ)
         → ForOverlapping array (λ search. IsStateAfter (tables_in search array) [] LITERAL_START_STATE) }

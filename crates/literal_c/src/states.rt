@@ -17,10 +17,10 @@ pub const LITERAL_START_STATE: u32 = 0;
 pub const LITERAL_MATCH_STATE: u32 = 2147483648;
 
 /// Tells the state after one more byte of the text after which the state is `state`, by a search that
-/// [`literal_prepare_overlapping`](crate::literal_prepare_overlapping) wrote. The text of
-/// [`LITERAL_START_STATE`] is empty. A pattern is a suffix of the text if the state is [`LITERAL_MATCH_STATE`] or more.
-/// The status is [`LITERAL_DAMAGED`] as for [`literal_find_in`](crate::literal_find_in), and if the array has no row for
-/// the state. With another state of no text of this search, `next` has no meaning.
+/// [`literal_prepare_overlapping`](crate::literal_prepare_overlapping) wrote. The text of [`LITERAL_START_STATE`] is
+/// empty. A pattern is a suffix of the text if the state is [`LITERAL_MATCH_STATE`] or more. The status is
+/// [`LITERAL_DAMAGED`] as for [`literal_find_in`](crate::literal_find_in), and if the array has no row for the state.
+/// With another state of no text of this search, `next` has no meaning.
 #[unsafe(no_mangle)]
 pub extern "C" fn literal_next_state_in(
     prepared: &[u32],
@@ -94,8 +94,8 @@ pub extern "C" fn literal_walk_in(
 /// Tells which patterns end with the text of a state. `total` is how many they are. Of their numbers, in ascending
 /// order, those from the index `from` on are written, as many as there is room for: none if `from` is at least `total`.
 /// The rest of `patterns` is unchanged. The status is [`LITERAL_OK`], or [`LITERAL_DAMAGED`] as for
-/// [`literal_next_state_in`]; then `total` is unchanged, and some numbers may be written. With any array and state, each
-/// number that is written is below the number of patterns, which is the array's fourth number.
+/// [`literal_next_state_in`]; then `total` is unchanged, and some numbers may be written. With any array and state,
+/// each number that is written is below the number of patterns, which is the array's fourth number.
 #[unsafe(no_mangle)]
 pub extern "C" fn literal_patterns_at_in(
     prepared: &[u32],

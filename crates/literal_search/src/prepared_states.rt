@@ -64,8 +64,8 @@ impl<'p> PreparedOverlapping<'p> {
         self.walk_counted(state, haystack, span, &mut Tally::new())
     }
 
-    /// Like [`PreparedOverlapping::walk`], and counts each looked-up byte in the tally, as scanned: with any array those
-    /// before the offset that is returned, each once.
+    /// Like [`PreparedOverlapping::walk`], and counts each looked-up byte in the tally, as scanned: with any array
+    /// those before the offset that is returned, each once.
     pub fn walk_counted(
         &self,
         state: State,

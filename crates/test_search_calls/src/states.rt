@@ -31,14 +31,13 @@ fn states_of_an_array_tell_which_patterns_end(rt: HostRuntime) -> Result<(), Fai
 fn walks_stop_where_a_pattern_ends(rt: HostRuntime) -> Result<(), Fail> {
     let array = filled(rt.alloc())?;
     let (search, tally) = (PreparedOverlapping::new(&array)?, &mut Tally::new());
-    let first = search.walk(search.start_state(), b"an append", Span { start: 0, end: 9 })?;
-    assert!(rt; first.is_match && first.at == 6);
-    let second = search.walk_counted(
-        first.state,
+    let first = search.walk(
+        search.start_state(),
         b"an append",
-        Span { start: 6, end: 9 },
-        tally,
+        Span { start: 0, end: 9 },
     )?;
+    assert!(rt; first.is_match && first.at == 6);
+    let second = search.walk_counted(first.state, b"an append", Span { start: 6, end: 9 }, tally)?;
     assert!(rt; second.is_match && second.at == 9 && search.matches(second.state)?.len() == 2);
     let last = search.walk(second.state, b"an append", Span { start: 9, end: 9 })?;
     assert!(rt; !last.is_match && last.at == 9 && last.state == second.state);

@@ -62,11 +62,13 @@ module _ (t : Tables) (are : AreTables t) (text : List ℕ) (state : ℕ) (is : 
         → pattern ≡ get_or t.rows (row + t.width) 0 → (result : Result (Bor (List ℕ)) Damaged)
         → (pattern + 1 < length starts → get_or starts pattern 0 ≤ get_or starts (pattern + 1) 0
         → get_or starts (pattern + 1) 0 ≤ length ends
-        → IsOkAnd result (λ list. list.now ≡ slice_range ends (get_or starts pattern 0) (get_or starts (pattern + 1) 0)))
+        → IsOkAnd result (λ list. list.now
+        ≡ slice_range ends (get_or starts pattern 0) (get_or starts (pattern + 1) 0)))
         → IsOkAnd result (λ all. AreAtEnd t.patterns t.ignore_case text (whole_of text) all.now)
     listed starts ends pattern starts_are ends_are pattern_is (Ok all) given =
         let below = named_below t are text state is row large at_row in
-        let list = given (grind (arith, are.lists.long)) (grind (arith, list_ordered t are text state is row large at_row))
+        let list = given (grind (arith, are.lists.long))
+        (grind (arith, list_ordered t are text state is row large at_row))
         (grind (arith, list_inside t are text state is row large at_row)) in
         let same : all.now ≡ slice_range t.ends (get_or t.starts (get_or t.rows (row + t.width) 0) 0)
         (get_or t.starts (get_or t.rows (row + t.width) 0 + 1) 0) = cc in
@@ -77,7 +79,8 @@ module _ (t : Tables) (are : AreTables t) (text : List ℕ) (state : ℕ) (is : 
         absurd (given (grind (arith, are.lists.long)) (grind (arith, list_ordered t are text state is row large at_row))
         (grind (arith, list_inside t are text state is row large at_row)))
 
--- a walk that has read the bytes of a haystack from an offset on after a text is in a state, and no pattern has ended since
+-- a walk that has read the bytes of a haystack from an offset on after a text is in a state, and no pattern has ended
+-- since
 pub record HasWalked (t : Tables) (text haystack : List ℕ) (start at state : ℕ) : Type 0 where
   pub is : IsStateAfter t (text ++ slice_range haystack start at) state
   pub none : (end : ℕ) → start < end → end ≤ at → ¬ EndsAfter t text haystack start end
@@ -112,33 +115,34 @@ module _ (t : Tables) (are : AreTables t) (text haystack : List ℕ) (start : �
       (code_if : row + t.width < length t.rows
       → code ≡ get_or t.rows (row + get_or t.classes (get_or haystack at 0) 0) 0)
     where
-    pub walked_to : IsStateAfter t (text ++ slice_range haystack start (at + 1)) code
-    walked_to = subst (λ (l : List ℕ). IsStateAfter t l code)
-        (sym (ap (λ l. text ++ l) (slice_push haystack start at after inside)
-        ∙ sym (append_assoc text (slice_range haystack start at) (get_or haystack at 0 ∷ []))))
-        (steps t are (text ++ slice_range haystack start at) walks.number walks.walked.is row walks.row_is
-        (get_or haystack at 0) code small
-        (code_if (row_within t are (text ++ slice_range haystack start at) walks.number walks.walked.is row walks.row_is)))
+      pub walked_to : IsStateAfter t (text ++ slice_range haystack start (at + 1)) code
+      walked_to = subst (λ (l : List ℕ). IsStateAfter t l code)
+          (sym (ap (λ l. text ++ l) (slice_push haystack start at after inside)
+          ∙ sym (append_assoc text (slice_range haystack start at) (get_or haystack at 0 ∷ []))))
+          (steps t are (text ++ slice_range haystack start at) walks.number walks.walked.is row walks.row_is
+          (get_or haystack at 0) code small
+          (code_if (row_within t are (text ++ slice_range haystack start at) walks.number walks.walked.is row
+          walks.row_is)))
 
-    pub walked_on : code < 2 ^ 31 → WalksAt t text haystack start first (at + 1) code
-    walked_on low = record {
-      number = code;
-      walked = record {
-        is = walked_to;
-        none = λ end after upto ends. elim (cases_lt at end) [
-          | inl last ↦ let end_is : end ≡ at + 1 = omega arith in
-              let one = subst (EndsAfter t text haystack start) end_is ends in
-              none_end t are (text ++ slice_range haystack start (at + 1)) code walked_to low one.0 one.1
-          | inr before ↦ walks.walked.none end after before ends
-        ];
-      };
-      row_is = inl (low, refl);
-      begun = λ is. absurd (omega arith);
-      further = λ _. refl;
-    }
+      pub walked_on : code < 2 ^ 31 → WalksAt t text haystack start first (at + 1) code
+      walked_on low = record {
+        number = code;
+        walked = record {
+          is = walked_to;
+          none = λ end after upto ends. elim (cases_lt at end) [
+            | inl last ↦ let end_is : end ≡ at + 1 = omega arith in
+                let one = subst (EndsAfter t text haystack start) end_is ends in
+                none_end t are (text ++ slice_range haystack start (at + 1)) code walked_to low one.0 one.1
+            | inr before ↦ walks.walked.none end after before ends
+          ];
+        };
+        row_is = inl (low, refl);
+        begun = λ is. absurd (omega arith);
+        further = λ _. refl;
+      }
 
-    pub walked_end : 2 ^ 31 ≤ code → EndsAfter t text haystack start (at + 1)
-    walked_end high = one_ends t are (text ++ slice_range haystack start (at + 1)) code walked_to high
+      pub walked_end : 2 ^ 31 ≤ code → EndsAfter t text haystack start (at + 1)
+      walked_end high = one_ends t are (text ++ slice_range haystack start (at + 1)) code walked_to high
 
 -- the number for a byte, by the parts of a table that are those of an array
 pub code_in : (classes classes' rows rows' : List ℕ) (width width' row byte code : ℕ) → classes ≡ classes'

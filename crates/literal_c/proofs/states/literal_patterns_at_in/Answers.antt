@@ -69,6 +69,8 @@ returns-in-Ok-write_numbers-clause-page c = λ search prepared text is _.
       are_all = at;
       total_is = refl;
       written = subst (λ n. take n new ≡ take (length new) (drop from all)) long
-          (written ∙ (ap (take (length old)) rest ∙ ap (λ n. take n (drop from all)) (sym c.in-Ok-write_numbers.ensures.len)));
+          (written
+          ∙ (ap (take (length old)) rest
+          ∙ ap (λ n. take n (drop from all)) (sym c.in-Ok-write_numbers.ensures.len)));
       others = subst (λ n. drop n new ≡ drop n old) long others;
     }

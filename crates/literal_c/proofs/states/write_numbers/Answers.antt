@@ -1,4 +1,5 @@
-use Rattle.std.proofs.Common.{◌≡◌, ◌+◌, ◌-◌, ◌<◌, ◌≤◌, ◌∙◌, ◌++◌, ◌∷◌, [], ℕ, List, ap, arith, drop, get_or, length, min, subst, sym, take}
+use Rattle.std.proofs.Common.{◌≡◌, ◌+◌, ◌-◌, ◌<◌, ◌≤◌, ◌∙◌, ◌++◌, ◌∷◌, [], ℕ, List, ap, arith, drop, get_or}
+use Rattle.std.proofs.Common.{length, min, subst, sym, take}
 use Rattle.std.proofs.lemmas.List.{drop-drop, drop-set-lt, take_min, take_more, take_more_set}
 use Rattle.std.proofs.lemmas.List.Elements.{All-push}
 use Rattle.std.specs.List.{All}
@@ -26,8 +27,10 @@ loop-at-preserved c =
     let there : at < length numbers = omega (arith, c.loop-at-test.true, c.min-at-end.ensures) in
     let more = take_more numbers at 0 there in
     record {
-      written = take_more_set places at (get_or numbers at 0) inside ∙ (ap (λ l. l ++ get_or numbers at 0 ∷ []) so_far.written ∙ sym more);
-      small = subst (All (λ number. number < c.args.limit)) (sym more) (All-push (λ number. number < c.args.limit) _ _ so_far.small c.if-numbers-at.false);
+      written = take_more_set places at (get_or numbers at 0) inside
+          ∙ (ap (λ l. l ++ get_or numbers at 0 ∷ []) so_far.written ∙ sym more);
+      small = subst (All (λ number. number < c.args.limit)) (sym more)
+          (All-push (λ number. number < c.args.limit) _ _ so_far.small c.if-numbers-at.false);
       others = drop-set-lt (at + 1) places at (get_or numbers at 0) (omega arith)
           ∙ drop_more (at + 1) at places c.args.places.now (omega arith) so_far.others;
     }
@@ -38,7 +41,8 @@ returns-clause-written c =
     let places = c.loop-at.places in
     let numbers = c.args.numbers.now in
     let long = c.loop-at.auto.places in
-    let by_places : at ≡ min (length numbers) (length places) = omega (arith, c.loop-at-test.false, c.min-at-end.ensures) in
+    let by_places : at ≡ min (length numbers) (length places) =
+    omega (arith, c.loop-at-test.false, c.min-at-end.ensures) in
     let by_numbers : at ≡ min (length c.args.places.now) (length numbers) = omega arith in
     let first = ap (λ n. take n places) by_places ∙ take_min (length numbers) places in
     let second = ap (λ n. take n numbers) by_numbers ∙ take_min (length c.args.places.now) numbers in (

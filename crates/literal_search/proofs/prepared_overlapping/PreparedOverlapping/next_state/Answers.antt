@@ -15,6 +15,7 @@ returns-clause-prepared c = λ search prepared text is.
     let are = prepared.tables in
     let row_is = row_by t are text c.args.state is c.in_ok-row.row c.in_ok-row.ensures.0 in
     let within = row_within t are text c.args.state is c.in_ok-row.row row_is in
-    let code_is : c.code_for.result ≡ get_or t.rows (c.in_ok-row.row + get_or t.classes c.args.byte 0) 0 = grind arith in
+    let code_is : c.code_for.result ≡ get_or t.rows (c.in_ok-row.row + get_or t.classes c.args.byte 0) 0 =
+    grind arith in
     subst (λ code. IsStateAfter t (text ++ c.args.byte ∷ []) code) (sym c.new.ensures)
     (steps t are text c.args.state is c.in_ok-row.row row_is c.args.byte c.code_for.result (omega arith) code_is)

@@ -1,4 +1,5 @@
-use Rattle.std.proofs.Common.{◌≡◌, ◌+◌, ◌-◌, ◌<◌, ◌∙◌, ◌++◌, ℕ, List, ap, arith, get_or, inl, inr, length, refl, subst, sym}
+use Rattle.std.proofs.Common.{◌≡◌, ◌+◌, ◌-◌, ◌<◌, ◌∙◌, ◌++◌, ℕ, List, ap, arith, get_or, inl, inr, length, refl, subst}
+use Rattle.std.proofs.Common.{sym}
 use Rattle.std.proofs.Common.{slice_range}
 use Rattle.literal_base.specs.Counts.{Counts}
 use Rattle.literal_search.specs.Automaton.{IsStateAfter}
@@ -65,9 +66,13 @@ returns-then-row-limit-clause-prepared c = λ search prepared text is.
           (walked_to t prepared.tables text haystack start c.args.state at c.loop-at.row c.loop-at.auto.at inside walks
           (omega (arith, c.type_inv.haystack at)) code code_if);
       none = λ end after before. walks.walked.none end after (omega arith);
-      stops = inl (refl, omega (arith, c.loop-at.auto.at), walked_end t prepared.tables text haystack start c.args.state
-          at c.loop-at.row c.loop-at.auto.at inside walks (omega (arith, c.type_inv.haystack at)) code code_if
-          c.in_ok-_row.ensures.0);
+      stops = inl (
+        refl,
+        omega (arith, c.loop-at.auto.at),
+        walked_end t prepared.tables text haystack start c.args.state
+            at c.loop-at.row c.loop-at.auto.at inside walks (omega (arith, c.type_inv.haystack at)) code code_if
+            c.in_ok-_row.ensures.0,
+      );
     }
 
 pub loop-at-preserved : goal.loop-at-preserved
