@@ -38,7 +38,7 @@ MAKERS = (
     "Overlapping::earliest_end", "Overlapping::count_overlapping_in", "OverlappingMatchesIterator::next",
     "Prepared::find_in", "PreparedMatches::next_match",
     "PreparedOverlapping::earliest_end", "PreparedOverlapping::count_overlapping_in",
-    "PreparedOverlappingMatches::next_match",
+    "PreparedOverlappingMatches::next_match", "PreparedOverlapping::walk",
     "PreparedWords::find_in", "PreparedWordMatches::next_match",
     "PreparedWords::find_in_by_sides", "PreparedWordMatchesBySides::next_match",
 )

@@ -278,6 +278,35 @@ static int page_of_matches(Walk *walk) {
     return is_alone ? matches_one_by_one(walk) : matches_of_piece(walk);
 }
 
+/* Whether the next piece can be counted alone: it is the last one, or no match reaches over its end. With patterns of more
+ * than 1,024 bytes a call might take too long. */
+static bool is_countable(const Walk *walk) {
+    size_t longest = walk->search->pieces.longest;
+    return !walk->is_part && longest <= 1024 &&
+           (longest <= 1 || end_of_piece(walk->search, walk->at, walk->end) == walk->end);
+}
+
+/* Counts the matches of the next piece. */
+static int count_matches(Walk *walk, size_t *count) {
+    size_t words_len, found = 0, end = end_of_piece(walk->search, walk->at, walk->end);
+    const uint32_t *words = words_of(walk->search->prepared, &words_len);
+    const Text *text = &walk->text;
+    int32_t status;
+    PyThreadState *state = let_others_run(end - walk->at);
+    if (walk->search->whole_words)
+        status = literal_count_words_in((uint32_t)walk->search->kind, words, words_len, text->bytes, text->len,
+                                        walk->at, end, &found);
+    else
+        status = literal_count_in(words, words_len, text->bytes, text->len, walk->at, end, &found);
+    come_back(state);
+    if (status != LITERAL_OK)
+        return refuse(status);
+    *count += found;
+    walk->at = end;
+    walk->is_done = end == walk->end;
+    return 0;
+}
+
 /* Takes over what ends behind `at`, and is whole: where there was not room for all, what ends with the last that was
  * written may not be. The next page lists again what ends there, and what lies in as many bytes before as the longest
  * pattern has: so it gets more room, if this one did not go on a quarter as far as it went back. */

@@ -920,6 +920,14 @@ class Pieces(unittest.TestCase):
                         text[cut + at : cut + at + len(word)] = word
                     self.assertGreaterEqual(len(self.compared(words, kind, bytes(text))), 2)
 
+    def test_one_letter(self):
+        text = b"eaxe" * (self.PIECE // 2 + 5)
+        for words in [b"e"], [b"a", b"e"], [b"q"]:
+            self.assertEqual(Search(words).count(text), sum(map(text.count, words)))
+        self.assertEqual(Search([b"E"], ignore_case=True).count(text, 3), text.count(b"e", 3))
+        self.assertEqual(Search([b"e"], whole_words=True).count(b"e " * self.PIECE + b"ee"), self.PIECE)
+        self.assertEqual(Search(["ä"]).count("aä" * self.PIECE), self.PIECE)
+
     def test_many_matches(self):
         chance = random.Random(4)
         text = b"".join(chance.choices((b"ab", b"abc", b"b", b"cab", b"x" * 7), k=600000))
@@ -980,7 +988,7 @@ class RefusedMemory(unittest.TestCase):
         process, searcher, text = ctypes.CDLL(None), Search(WORDS), b"apple" * 10000
         of_words, accented = Search(["a"], whole_words=True), "é a" * 10000
         self.assertEqual(of_words.count(accented), 1)  # (only the last is no part of `aé`)
-        for call in (lambda: Search([b"%d" % it for it in range(2000)]), lambda: searcher.count(text),
+        for call in (lambda: Search([b"%d" % it for it in range(2000)]), lambda: searcher.findall(text),
                      lambda: of_words.find(accented), lambda: of_words.findall(accented)):
             with self.assertRaises(MemoryError):
                 process.setenv(b"REFUSED_REQUEST", b"0", 1)

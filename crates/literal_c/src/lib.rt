@@ -42,6 +42,9 @@ mod resumed;
 mod sides;
 mod so_far;
 #[cfg(test)]
+mod state_tests;
+mod states;
+#[cfg(test)]
 mod tests;
 #[cfg(test)]
 mod word_tests;
@@ -61,6 +64,10 @@ pub use sides::{
     literal_find_word_by_sides_in,
 };
 use so_far::{find_so_far, tell_so_far};
+pub use states::{
+    LITERAL_MATCH_STATE, LITERAL_START_STATE, literal_next_state_in, literal_patterns_at_in,
+    literal_walk_in,
+};
 use std::alloc::Global;
 
 /// The version of this library as a number, 1,000,000 * major + 1,000 * minor + patch: 1000 for 0.1.0.

@@ -28,6 +28,7 @@ pub mod Numbers
 pub mod Overlapping
 pub mod Packed
 pub mod Prepared
+pub mod PreparedStates
 pub mod Recognised
 pub mod Relabelled
 pub mod Replaced

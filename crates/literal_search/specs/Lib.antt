@@ -10,6 +10,7 @@ pub mod OverlappingMatchesValue
 pub mod PatternsIter
 pub mod Prepared
 pub mod PreparedOverlapping
+pub mod PreparedStates
 pub mod PreparedWords
 pub mod Replaced
 pub mod SearchBuilderValue

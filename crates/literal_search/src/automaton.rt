@@ -152,6 +152,20 @@ impl<'s> Automaton<'s> {
 }
 
 impl State {
+    /// The state with a number, which [`State::as_u32`] returns.
+    pub fn new(number: u32) -> State
+        ensures { result ≡ number }
+    {
+        State { number }
+    }
+
+    /// Its number, for callers who keep states as numbers.
+    pub fn as_u32(self) -> u32
+        ensures { result ≡ self }
+    {
+        self.number
+    }
+
     /// The index at which the row of the state begins.
     #[inline(always)]
     fn row(self) -> usize

@@ -22,6 +22,8 @@ mod replacing;
 #[cfg(test)]
 mod searches;
 #[cfg(test)]
+mod states;
+#[cfg(test)]
 mod streams;
 #[cfg(test)]
 mod whole_words;
