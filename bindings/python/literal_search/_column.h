@@ -170,8 +170,17 @@ static PyObject *found_in(Prepared *self, const Column *column, const uint8_t *t
     return match;
 }
 
-/* The same of a long text, by the call for one text, which looks for signals. */
-static PyObject *found_in_long(Prepared *self, const Column *column, const uint8_t *text, size_t len, bool counts) {
+/* Whether a text goes to the call for one text: a long one, since that call looks for signals, and with whole words one
+ * with characters beyond ASCII. */
+static bool goes_alone(const Prepared *self, const Column *column, const uint8_t *text, size_t len) {
+    bool is_wide = false;
+    for (size_t i = 0; self->whole_words && column->is_str && i < len && !is_wide; i++)
+        is_wide = text[i] >= 0x80;
+    return len > PIECE || is_wide;
+}
+
+/* The same by the call for one text. */
+static PyObject *found_alone(Prepared *self, const Column *column, const uint8_t *text, size_t len, bool counts) {
     PyObject *of = object_of(column, text, len);
     PyObject *answer = of ? PyObject_CallMethod((PyObject *)self, counts ? "count" : "find", "O", of) : NULL;
     Py_XDECREF(of);
@@ -218,8 +227,8 @@ static PyObject *found_in_each(Prepared *self, const Column *column, bool skips,
         int is_there = pause_after(&done, len) ? -1 : cell_of(column, i, &text, &len);
         if (is_there == 0)
             one = missing(self, skips, counts);
-        else if (is_there == 1 && len > PIECE)
-            one = found_in_long(self, column, text, len, counts);
+        else if (is_there == 1 && goes_alone(self, column, text, len))
+            one = found_alone(self, column, text, len, counts);
         else if (is_there == 1 && (bytes = searched_bytes(self, text, len, &room, &room_len)))
             one = found_in(self, column, text, len, bytes, counts);
         done += len;

@@ -290,12 +290,14 @@ static bool is_countable(const Walk *walk) {
 static int count_matches(Walk *walk, size_t *count) {
     size_t words_len, found = 0, end = end_of_piece(walk->search, walk->at, walk->end);
     const uint32_t *words = words_of(walk->search->prepared, &words_len);
-    const Text *text = &walk->text;
+    Text *text = &walk->text;
     int32_t status;
     PyThreadState *state = let_others_run(end - walk->at);
+    make_sides(text, end);
     if (walk->search->whole_words)
-        status = literal_count_words_in((uint32_t)walk->search->kind, words, words_len, text->bytes, text->len,
-                                        walk->at, end, &found);
+        status = literal_count_words_by_sides_in((uint32_t)walk->search->kind, words, words_len, text->bytes,
+                                                 text->len, text->sides, text->sides ? text->len : 0, walk->at, end,
+                                                 &found);
     else
         status = literal_count_in(words, words_len, text->bytes, text->len, walk->at, end, &found);
     come_back(state);
