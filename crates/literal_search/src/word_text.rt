@@ -23,8 +23,8 @@ use std::marker::Model;
 /// letter `a` if [`char::is_alphanumeric`] holds, and otherwise as a space.
 ///
 /// ```rust
-/// let set = WholeWords::ascii_word_bytes();
-/// let search = WholeWords::new(alloc, MatchKind::LeftmostFirst, false, set, [b"lan".as_slice()])?;
+/// let (set, words) = (WholeWords::ascii_word_bytes(), [b"lan".as_slice()]);
+/// let search = WholeWords::new(alloc, MatchKind::LeftmostFirst, false, set, words)?;
 /// let text = WordText::new(alloc, "élan, lan")?;
 /// let found = search.find_text(&text).ok_or("nothing is found")?;
 /// assert!(rt; found.range() == (7..10));

@@ -9,14 +9,8 @@ use std::test::Fail;
 #[test]
 fn example_of_a_word_text(rt: HostRuntime) -> Result<(), Fail> {
     let alloc = rt.alloc();
-    let set = WholeWords::ascii_word_bytes();
-    let search = WholeWords::new(
-        alloc,
-        MatchKind::LeftmostFirst,
-        false,
-        set,
-        [b"lan".as_slice()],
-    )?;
+    let (set, words) = (WholeWords::ascii_word_bytes(), [b"lan".as_slice()]);
+    let search = WholeWords::new(alloc, MatchKind::LeftmostFirst, false, set, words)?;
     let text = WordText::new(alloc, "élan, lan")?;
     let found = search.find_text(&text).ok_or("nothing is found")?;
     assert!(rt; found.range() == (7..10));
