@@ -7,8 +7,7 @@ returns-clause-start c = λ array search _. starts_empty (tables_in search array
 
 pub returns-clause-ends : goal.returns-clause-ends
 returns-clause-ends c = λ array state search prepared text is.
-    let t = tables_in search array in
-    (
+    let t = tables_in search array in (
       λ large. one_ends t prepared.tables text state is large,
       λ one. ends_above t prepared.tables text state is one.0 one.1,
     )
