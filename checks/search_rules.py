@@ -35,6 +35,7 @@ MAKERS = (
     "Search::find_in", "Search::match_in", "Search::find_all_in", "MatchesIterator::next", "StartsIterator::next",
     "Search::replace_all", "WholeWords::find_in", "WholeWordMatchesIterator::next",
     "Overlapping::earliest_end", "Overlapping::count_overlapping_in", "OverlappingMatchesIterator::next",
+    "OverlappingStreamMatchesIterator::next",
     "Prepared::find_in", "PreparedMatches::next_match",
     "PreparedOverlapping::earliest_end", "PreparedOverlapping::count_overlapping_in",
     "PreparedOverlappingMatches::next_match",

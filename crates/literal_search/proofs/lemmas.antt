@@ -26,6 +26,8 @@ pub mod NextEnd
 pub mod NoPattern
 pub mod Numbers
 pub mod Overlapping
+pub mod OverlappingStreamed
+pub mod OverlappingStreams
 pub mod Packed
 pub mod Prepared
 pub mod Recognised

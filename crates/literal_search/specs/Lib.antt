@@ -8,6 +8,7 @@ pub mod MatchesValue
 pub mod Memory
 pub mod Overlapping
 pub mod OverlappingMatchesValue
+pub mod OverlappingStream
 pub mod PatternsIter
 pub mod Prepared
 pub mod PreparedOverlapping

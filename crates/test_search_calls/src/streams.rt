@@ -1,31 +1,11 @@
 //! Texts that may continue, and texts that are read in pieces.
 use crate::made::{first_of, longest_of};
+use crate::pieces::Pieces;
 use literal_search::{Match, MatchKind, ReplaceStreamError, Search, SoFar, Span, Tally};
 use std::alloc::Global;
-use std::io::{self, ErrorKind, Read, Write};
+use std::io::{self, ErrorKind, Write};
 use std::process::Abort;
 use std::test::Fail;
-
-/// A reader of bytes in memory, a few per call, that fails once this many bytes are left.
-#[derive(Drop)]
-struct Pieces<'t> {
-    rest: &'t [u8],
-    step: usize,
-    failing: Option<usize>,
-}
-
-impl Read for Pieces<'_> {
-    fn read(&mut self, buf: &mut [u8]) -> io::Result<usize> {
-        if self.failing == Some(self.rest.len()) {
-            return Err(io::Error::from(ErrorKind::TimedOut));
-        }
-        let count = self.rest.len().min(self.step).min(buf.len());
-        let (first, behind) = self.rest.split_at(count);
-        buf[..count].copy_from_slice(first);
-        self.rest = behind;
-        Ok(count)
-    }
-}
 
 #[test]
 fn example_of_a_stream(rt: HostRuntime) -> Result<(), Fail> {
