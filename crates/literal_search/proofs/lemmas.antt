@@ -34,6 +34,8 @@ pub mod Recognised
 pub mod Relabelled
 pub mod Replaced
 pub mod ReplacedWords
+pub mod Rewritten
+pub mod RewrittenBy
 pub mod Reversed
 pub mod Rows
 pub mod Scan

@@ -14,6 +14,7 @@ pub mod Prepared
 pub mod PreparedOverlapping
 pub mod PreparedWords
 pub mod Replaced
+pub mod ReplacedStream
 pub mod SearchBuilderValue
 pub mod States
 pub mod Stream

@@ -102,6 +102,68 @@ fn example_of_replacing_in_a_stream(rt: HostRuntime) -> Result<(), Fail> {
     Ok(())
 }
 
+#[test]
+fn example_of_replacing_in_a_stream_with(rt: HostRuntime) -> Result<(), Fail> {
+    let alloc = rt.alloc();
+    let search = Search::builder().build(alloc, [b"apple".as_slice(), b"maple"])?;
+    let (mut text, mut written) = (b"apple, maple".as_slice(), Vec::new(alloc));
+    search.replace_stream_with(
+        alloc,
+        &mut text,
+        &mut written,
+        |_, bytes, writer| {
+            writer.write_all(b"<")?;
+            writer.write_all(bytes)?;
+            writer.write_all(b">")
+        },
+    )?;
+    assert!(rt; written.as_slice() == b"<apple>, <maple>".as_slice());
+    Ok(())
+}
+
+/// The second match is known only once the text has ended, and the calls have its offsets in the whole text.
+#[test]
+fn calls_have_offsets_in_the_text(rt: HostRuntime) -> Result<(), Fail> {
+    let (alloc, search) = (rt.alloc(), first_of(rt.alloc(), &[b"abcd", b"bc"])?);
+    let mut pieces = Pieces {
+        rest: b"xabcdxxbc",
+        step: 3,
+        failing: None,
+    };
+    let (mut written, mut ends) = (Vec::new(alloc), [0; 2]);
+    let mut count = 0;
+    search.replace_stream_with(
+        alloc,
+        &mut pieces,
+        &mut written,
+        |found, _, _| {
+            if let Some(end) = ends.get_mut(count) {
+                *end = found.end();
+                count = 1;
+            }
+            Ok(())
+        },
+    )?;
+    assert!(rt; written.as_slice() == b"xxx".as_slice());
+    assert!(rt; ends == [5, 9]);
+    Ok(())
+}
+
+#[test]
+fn a_failed_call_ends_it(rt: HostRuntime) -> Result<(), Fail> {
+    let (alloc, search) = (rt.alloc(), first_of(rt.alloc(), &[b"abcd", b"bc"])?);
+    let (mut text, mut written) = (b"xabcdx".as_slice(), Vec::new(alloc));
+    let failed = search.replace_stream_with(alloc, &mut text, &mut written, |_, _, _| {
+        Err(io::Error::from(ErrorKind::InvalidData))
+    });
+    let Err(ReplaceStreamError::WriteFailed(error)) = failed else {
+        return Err(Fail::from("no such error"));
+    };
+    assert!(rt; error.kind() == ErrorKind::InvalidData);
+    assert!(rt; written.as_slice() == b"x".as_slice());
+    Ok(())
+}
+
 /// With pieces of this many bytes, the text with its matches replaced is written.
 fn assert_written(
     rt: &impl Abort,
