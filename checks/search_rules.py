@@ -36,6 +36,7 @@ MAKERS = (
     "Search::replace_all", "WholeWords::find_in", "WholeWordMatchesIterator::next",
     "WholeWords::find_text_in", "WordMatchesBySidesIterator::next",
     "Overlapping::earliest_end", "Overlapping::count_overlapping_in", "OverlappingMatchesIterator::next",
+    "OverlappingStreamMatchesIterator::next",
     "Prepared::find_in", "PreparedMatches::next_match",
     "PreparedOverlapping::earliest_end", "PreparedOverlapping::count_overlapping_in",
     "PreparedOverlappingMatches::next_match", "PreparedOverlapping::walk",

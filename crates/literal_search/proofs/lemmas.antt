@@ -26,6 +26,8 @@ pub mod NextEnd
 pub mod NoPattern
 pub mod Numbers
 pub mod Overlapping
+pub mod OverlappingStreamed
+pub mod OverlappingStreams
 pub mod Packed
 pub mod Prepared
 pub mod PreparedStates
@@ -33,6 +35,8 @@ pub mod Recognised
 pub mod Relabelled
 pub mod Replaced
 pub mod ReplacedWords
+pub mod Rewritten
+pub mod RewrittenBy
 pub mod Reversed
 pub mod Rows
 pub mod Scan

@@ -7,12 +7,14 @@ pub mod MatchesValue
 pub mod Memory
 pub mod Overlapping
 pub mod OverlappingMatchesValue
+pub mod OverlappingStream
 pub mod PatternsIter
 pub mod Prepared
 pub mod PreparedOverlapping
 pub mod PreparedStates
 pub mod PreparedWords
 pub mod Replaced
+pub mod ReplacedStream
 pub mod SearchBuilderValue
 pub mod SearchValue
 pub mod States

@@ -14,7 +14,11 @@ mod folding;
 #[cfg(test)]
 mod made;
 #[cfg(test)]
+mod overlapping_streams;
+#[cfg(test)]
 mod parts;
+#[cfg(test)]
+mod pieces;
 #[cfg(test)]
 mod prepared;
 #[cfg(test)]
