@@ -92,8 +92,8 @@ fn walks_from_end_to_end(rt: HostRuntime) -> Result<(), Fail> {
 fn numbers_of_no_state_are_refused(rt: HostRuntime) -> Result<(), Fail> {
     let prepared = search_for_all(rt.alloc())?;
     let (mut state, mut at, mut total) = (5, 5, 5);
-    let (rows_len, mut found) = (prepared[4], [7]);
-    for number in [rows_len, LITERAL_MATCH_STATE + rows_len, u32::MAX] {
+    let (rows_len, mut found) = (*prepared.get(4).ok_or("no fifth number")?, [7]);
+    for number in [rows_len, LITERAL_MATCH_STATE | rows_len, u32::MAX] {
         let status = literal_next_state_in(&prepared, number, b'a', &mut state);
         assert!(rt; status == LITERAL_DAMAGED && state == 5);
         let status = literal_walk_in(&prepared, number, b"ab", 0, 2, &mut state, &mut at);
