@@ -1,9 +1,9 @@
 //! Exports for loops over the states of a search for every occurrence.
-ghost use Rattle.std.specs.Prelude.{◌≡◌, ◌⊎◌, ◌↔◌, ◌++◌, ◌∷◌, [], ◌-◌, ◌<◌, ◌≤◌, ⊤, length, slice_index};
+ghost use Rattle.std.specs.Prelude.{◌≡◌, ◌⊎◌, ◌++◌, ◌∷◌, [], ◌-◌, ◌<◌, ◌≤◌, ⊤, length, slice_index};
 ghost use Rattle.std.specs.Prelude.{MatchResult, drop, take};
 ghost use Rattle.std.specs.List.{All};
 ghost use Rattle.literal_base.specs.Occurs.{IsValidSpan, between};
-ghost use Rattle.literal_search.specs.Automaton.{EndsText, IsStateAfter};
+ghost use Rattle.literal_search.specs.Automaton.{IsStateAfter};
 ghost use Rattle.literal_search.specs.PreparedOverlapping.{tables_in};
 ghost use Rattle.literal_c.specs.States.{ForState, HasStopped, IsEndingPage, IsStateStatus};
 
