@@ -6,7 +6,7 @@ use Rattle.literal_search.specs.Prepared.{rows_in}
 use Rattle.literal_search.specs.PreparedOverlapping.{Tables}
 use Rattle.literal_search.specs.declared.prepared_states.Walked.{Walked}
 
--- the number of a state is an index in the rows of the array, plus 2^31 if a pattern ends there
+-- the number of a state, without its highest bit, is an index in the rows of the array
 abbrev pub HasRow : List ℕ → ℕ → Type 0
 HasRow numbers state = state % 2 ^ 31 < length (rows_in numbers)
 

@@ -36,7 +36,8 @@ pub record IsAlone (word_bytes : List Bool) (haystack : List ℕ) (start end : �
   pub before : is_word_before word_bytes haystack start ≡ false
   pub after : is_word_at word_bytes haystack end ≡ false
 
--- `OccursAlone` by the sides of the haystack: as many bytes, which count in its place next to an occurrence
+-- `OccursAlone` by the sides of the haystack: one byte for each of its bytes, by which it is decided whether a word
+-- byte is next to an occurrence
 pub record OccursAloneBy (patterns : List (List ℕ)) (ignore_case : Bool) (word_bytes : List Bool)
     (haystack sides : List ℕ) (span : Span) (i at : ℕ) : Type 0 where
   pub occurs : Occurs patterns ignore_case haystack span i at

@@ -120,7 +120,7 @@ impl<'p> PreparedOverlapping<'p> {
     }
 
     /// Returns the numbers of all patterns that are suffixes of the text, in ascending order, or [`Damaged`] if the
-    /// array has no row for the state.
+    /// array has no row for the state. By an array that was not prepared they may be numbers of no pattern.
     pub fn matches(&self, state: State) -> Result<&[u32], Damaged>
         ensures prepared { ForOverlapping self.now (λ search. (text : List ℕ)
             → IsStateAfter (tables_in search self.now) text state → IsOkAnd result
