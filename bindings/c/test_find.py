@@ -29,6 +29,7 @@ int main(void) { return printf("%d %d", level(), __builtin_cpu_supports("x86-64-
 CROSS = "aarch64-linux-gnu-gcc"
 TEXT = "Nobody likes maple in their apple flavored Snapple.\n"
 WORDS, FOUND = ["apple", "maple", "Snapple"], "1 13 18\n0 28 33\n2 43 50\n"
+PROGRAMS = (("litfind", ("longest", *WORDS)), ("litscan", ("-n", "-e", "apple", "-e", "maple", "-e", "they")))
 MOST_REQUESTS = 100
 
 # Where bindings/test runs this, a library that refuses a request for memory stands before the C library.
@@ -126,6 +127,10 @@ class Find(Programs):
         for words in processors:
             self.assertIn(run(*words, program, stderr=subprocess.DEVNULL), ((0, "2 2"), (0, "3 3")), words)
             self.assertEqual(run(*words, find, *WORDS, text=TEXT, stderr=subprocess.DEVNULL), (0, FOUND), words)
+            for name, given in PROGRAMS:
+                found = run(*words, LIBRARY.with_name(name), *given, text=TEXT, stderr=subprocess.DEVNULL)
+                self.assertEqual(found, run(LIBRARY.with_name(name), *given, text=TEXT), words)
+                self.assertEqual(found[0], 0)
 
     @unittest.skipUnless("refuse" in REFUSER, "run by bindings/test")
     def test_each_request_refused(self):
