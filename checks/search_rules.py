@@ -34,11 +34,14 @@ MAKERS = (
     "Builder::build", "Searcher::find_in", "Searcher::find_iter", "Prefilter::find_in", "ConfirmingSearch::find_in",
     "Search::find_in", "Search::match_in", "Search::find_all_in", "MatchesIterator::next", "StartsIterator::next",
     "Search::replace_all", "WholeWords::find_in", "WholeWordMatchesIterator::next",
+    "WholeWords::find_text_in", "WordMatchesBySidesIterator::next",
     "Overlapping::earliest_end", "Overlapping::count_overlapping_in", "OverlappingMatchesIterator::next",
+    "OverlappingStreamMatchesIterator::next",
     "Prepared::find_in", "PreparedMatches::next_match",
     "PreparedOverlapping::earliest_end", "PreparedOverlapping::count_overlapping_in",
-    "PreparedOverlappingMatches::next_match",
+    "PreparedOverlappingMatches::next_match", "PreparedOverlapping::walk",
     "PreparedWords::find_in", "PreparedWordMatches::next_match",
+    "PreparedWords::find_in_by_sides", "PreparedWordMatchesBySides::next_match",
 )
 
 # Where each step ticks, once in each function, and a sum of the words of its body as it was reviewed, if it was. The
@@ -57,9 +60,13 @@ TICKS = {
     "crates/literal_search/src/walk.rt": {
         "Table::code_at": ("tick_scanned", "25dd60819038"), "walk::class_by": ("tick_scanned", "5af4fe0d0b4f"),
     },
-    "crates/literal_search/src/word_search.rt": {"Words::is_word_at": ("tick_scanned", "99fb2808b128")},
+    "crates/literal_search/src/word_search.rt": {"Words::is_word_at": ("tick_scanned", "0a7b06daaf24")},
 }
 READS = ("tick_compared", "tick_scanned")
+
+# What parameters are called that hold what a search reads: a haystack, and its sides. SIDES_OF makes the sides of a
+# `text`, before any search.
+READ_NAMES, SIDES_OF = ("haystack", "sides"), "crates/literal_search/src/word_text.rt"
 
 # What parameters are called that hold bytes of patterns, one or all, or what is put in their place, and how bytes are
 # typed.
@@ -69,7 +76,7 @@ BYTES = re.compile(r"\b([a-z]\w*)\s*:[^,):]*(?:\[u8\]|\bVec<u8>|\bstr\b)")
 # The types that may keep a slice of bytes: a haystack, patterns, or what C hands over of either.
 KEEPERS = (
     "FindIter", "Matches", "PreparedMatches", "OverlappingMatches", "PreparedOverlappingMatches", "Input", "Pattern",
-    "SearchRequest", "Pieces", "AnySearch", "WholeWordMatches", "PreparedWordMatches",
+    "SearchRequest", "Pieces", "AnySearch", "WordText", "WordMatchesBySides", "PreparedWordMatchesBySides",
 )
 
 # The fields of `BucketEntries` that tell nothing of an entry, and the functions that may name the others: the one that
@@ -78,13 +85,16 @@ PLAIN_FIELDS = ("starts", "longer", "single")
 ENTRY_READERS = ("BucketEntries::entry", "BucketEntries::new", "BucketEntries::try_clone")
 
 # How a haystack is used: its length is asked for, it is cut into another, bytes of it are hashed with a tally or copied
-# where matches are replaced, or it is handed on, whole or cut, as an argument.
+# where matches are replaced, or it is handed on, whole or cut, as an argument. So are its sides.
 ARGUMENTS = r"\((?:[^()]|\((?:[^()]|\(\))*\))*\)"
-LENGTH = re.compile(r"\bhaystack\s*\.\s*(?:len|is_empty)\(\)")
-BOUND = re.compile(r"\blet haystack = &?(?:self\s*\.\s*)?haystack(?:\[[^][]*\.\.[^][]*\])?;")
+READ = f"(?:{'|'.join(READ_NAMES)})"
+LENGTH = re.compile(rf"\b{READ}\s*\.\s*(?:len|is_empty)\(\)")
+BOUND = re.compile(rf"\blet ({READ}) = &?(?:self\s*\.\s*)?\1(?:\[[^][]*\.\.[^][]*\])?;")
 HASHED = re.compile(r"\.(?:push|roll)\((?:haystack\[[^][]*\],\s*)+tally\)")
 COPIED = re.compile(r"\b(?:text\.(?:extend_from_slice|push_str)\(|write\(found, )&haystack\[[^][]*\](?=[,)])")
-HANDED = re.compile(r"(?<=[(,{])\s*&?(?:self\s*\.\s*)?haystack(?:\[[^][]*\.\.[^][]*\]|\.as_bytes\(\))?\s*(?=[,)}])")
+HANDED = re.compile(
+    rf"(?<=[(,{{])\s*&?(?:self\s*\.\s*)?{READ}(?:\[[^][]*\.\.[^][]*\]|\.as_bytes\(\))?\s*(?=[,)}}])"
+)
 
 
 class Source:
@@ -150,11 +160,11 @@ def haystacks(sources):
     taken = [(source, function, name) for source in sources if source.is_of_searches for function in source.functions
              for name in BYTES.findall(source.code[function.head : function.start])]
     for source, function, name in taken:
-        if name not in ("haystack", *PATTERN_NAMES):
+        if name not in (*READ_NAMES, *PATTERN_NAMES) and (source.path, name) != (SIDES_OF, "text"):
             yield source.at(function.head, (
                 f"bytes of a haystack are called `haystack`, and those of patterns {', '.join(PATTERN_NAMES)}: call "
                 f"the parameter `{name}` so, or add what it holds to PATTERN_NAMES{HERE}"))
-    takers = "|".join({it.name.split("::")[-1] for _, it, name in taken if name == "haystack"})
+    takers = "|".join({it.name.split("::")[-1] for _, it, name in taken if name in READ_NAMES})
     calls = re.compile(rf"\b(?:{takers})(?:::<[^<>]*>)?{ARGUMENTS}|\b(?:{'|'.join(KEEPERS)}) \{{[^{{}}]*\}}")
     for source in (it for it in sources if it.is_of_searches):
         for function in source.functions:
@@ -170,13 +180,13 @@ def haystacks(sources):
 def odd_uses(code, calls, name):
     """The places of a body at which a haystack is used otherwise than it may be."""
     def passed_over(found):
-        return found[0].replace("haystack", " " * len("haystack"))
+        return re.sub(rf"\b{READ}\b", lambda name: " " * len(name[0]), found[0])
 
     code = BOUND.sub(passed_over, LENGTH.sub(passed_over, code))
     code = HASHED.sub(passed_over, code) if name.endswith("RabinKarp::walk") else code
     code = COPIED.sub(passed_over, code) if re.search(r"(Search|WholeWords)::replace_all\w*$", name) else code
     code = calls.sub(lambda found: HANDED.sub(passed_over, found[0]), code)
-    return [found.start() for found in re.finditer(r"\bhaystack\b", code)]
+    return [found.start() for found in re.finditer(rf"\b{READ}\b(?!\()", code)]
 
 
 def entries(sources):

@@ -109,6 +109,21 @@ static void prepare(void) {
     CHECK(info.patterns == 3 && info.shortest == 5 && info.longest == 7);
 }
 
+static void by_states(const uint8_t *text, size_t len) {
+    size_t found[2] = {7, 7}, at = 0, total = 7;
+    uint32_t state = LITERAL_START_STATE, other = 7;
+    CHECK(literal_walk_in(for_all, PLACES, state, text, len, 30, len, &state, &at) == LITERAL_OK && at == 50);
+    CHECK(literal_is_match(state));
+    CHECK(literal_patterns_at_in(for_all, PLACES, state, 0, found, 2, &total) == LITERAL_OK && total == 2);
+    CHECK(found[0] == 0 && found[1] == 2);
+    CHECK(literal_patterns_at_in(for_all, PLACES, state, 1, NULL, 0, &total) == LITERAL_OK && total == 2);
+    CHECK(literal_walk_in(for_all, PLACES, state, text, len, at, len, &state, &at) == LITERAL_NONE && at == len);
+    CHECK(state == LITERAL_START_STATE && !literal_is_match(state));
+    CHECK(literal_next_state_in(for_all, PLACES, state, 'm', &other) == LITERAL_OK && other != state);
+    CHECK(literal_next_state_in(prepared, PLACES, state, 'm', &other) == LITERAL_DAMAGED);
+    CHECK(literal_walk_in(for_all, PLACES, other, NULL, 0, 0, 0, &state, &at) == LITERAL_NONE && state == other);
+}
+
 static void by_prepared(const uint8_t *text, size_t len) {
     literal_match found[3] = {{0, 0, 0}};
     literal_page page = {0, 0, 0};
@@ -334,6 +349,7 @@ static void *calls(void *none) {
     by_patterns(text, len);
     prepare();
     by_prepared(text, len);
+    by_states(text, len);
     by_null(text, len);
     by_a_search_of_its_own(text, len);
     every_occurrence();

@@ -57,8 +57,8 @@
  *
  * A call writes only if it returns LITERAL_OK; after any other status the lent memory is unchanged. There are
  * exceptions: with LITERAL_TOO_SHORT, calls that prepare an array report the length that it needs; with LITERAL_NONE,
- * literal_find_so_far_in reports where to go on; with LITERAL_DAMAGED, some of the entries for matches or answers may
- * be written.
+ * literal_find_so_far_in reports where to go on, and literal_walk_in writes as with LITERAL_OK; with LITERAL_DAMAGED,
+ * some of the entries for matches, answers or numbers of patterns may be written.
  *
  * The table of a search has a row for each different suffix of a pattern (for every occurrence: each different prefix).
  * A row has an entry for each different byte of the patterns, and two more (one, if all 256 occur). So
@@ -392,6 +392,60 @@ int32_t literal_find_all_words_in(uint32_t kind, const uint32_t *prepared, size_
 int32_t literal_count_words_in(uint32_t kind, const uint32_t *prepared, size_t prepared_len, const uint8_t *haystack,
                                size_t haystack_len, size_t start, size_t end, size_t *count);
 
+/* The same three calls for word characters of the caller's choice. `sides` has a byte for each byte of the haystack, and
+ * is looked up in its place next to an occurrence: an ASCII letter, a digit or an underscore means that the byte of the
+ * haystack belongs to a word character. For UTF-8, copy the ASCII characters, write 'a' for each byte of another
+ * character if it is a letter or a digit, and ' ' otherwise. Only the sides from the byte before start up to the one at
+ * end are read. With NULL and 0, the calls are those above.
+ *
+ * LITERAL_BAD_ARGUMENTS  also if sides_len is neither haystack_len nor 0 */
+int32_t literal_find_word_by_sides_in(uint32_t kind, const uint32_t *prepared, size_t prepared_len,
+                                      const uint8_t *haystack, size_t haystack_len, const uint8_t *sides,
+                                      size_t sides_len, size_t start, size_t end, literal_match *found);
+int32_t literal_find_all_words_by_sides_in(uint32_t kind, const uint32_t *prepared, size_t prepared_len,
+                                           const uint8_t *haystack, size_t haystack_len, const uint8_t *sides,
+                                           size_t sides_len, size_t start, size_t end, literal_match *found,
+                                           size_t found_len, literal_page *page);
+int32_t literal_count_words_by_sides_in(uint32_t kind, const uint32_t *prepared, size_t prepared_len,
+                                        const uint8_t *haystack, size_t haystack_len, const uint8_t *sides,
+                                        size_t sides_len, size_t start, size_t end, size_t *count);
+
+/* The functions from here on step through the automaton of a search for every occurrence, for loops of the caller's own.
+ * They take an array of literal_prepare_overlapping. A state is a number, which depends on the array: the state after a
+ * text is that of the longest suffix of the text with which a pattern begins. If two texts lead to the same state, the
+ * same patterns end with both, also after the same further bytes. LITERAL_START_STATE is the state after the empty text.
+ * A pattern ends with the text exactly if the state is LITERAL_MATCH_STATE or more (literal_is_match).
+ *
+ * For a number that is no state of the array, an answer has no meaning, or is LITERAL_DAMAGED. */
+#define LITERAL_START_STATE 0
+#define LITERAL_MATCH_STATE 2147483648u
+
+/* The state after one byte more than the text of a state. A call costs much more than its look-up, so for many bytes use
+ * literal_walk_in.
+ *
+ * LITERAL_OK  next holds the state */
+int32_t literal_next_state_in(const uint32_t *prepared, size_t prepared_len, uint32_t state, uint8_t byte,
+                              uint32_t *next);
+
+/* Goes on from a state with the bytes of the haystack from start up to and not including end, up to the first byte with
+ * which a pattern ends. next is the state after the last byte that was looked up, and at the offset after it. To go on,
+ * pass these two as state and start: then each byte is looked up once. A text may come in pieces: begin the next piece
+ * in the state after the last one.
+ *
+ * LITERAL_OK             a pattern ends at the offset at, which is above start; literal_patterns_at_in tells which
+ * LITERAL_NONE           no pattern ends at an offset above start, up to end; at is end
+ * LITERAL_BAD_ARGUMENTS  start is above end, or end above haystack_len */
+int32_t literal_walk_in(const uint32_t *prepared, size_t prepared_len, uint32_t state, const uint8_t *haystack,
+                        size_t haystack_len, size_t start, size_t end, uint32_t *next, size_t *at);
+
+/* The patterns that end with the text of a state: total is how many, and the array patterns gets their numbers, in
+ * ascending order, from the one with the index from on, up to patterns_len. The rest of it is unchanged. With
+ * patterns_len 0, or from not below total, no number is written.
+ *
+ * LITERAL_OK  total and the numbers are written, also if no pattern ends there (then total is 0) */
+int32_t literal_patterns_at_in(const uint32_t *prepared, size_t prepared_len, uint32_t state, size_t from,
+                               size_t *patterns, size_t patterns_len, size_t *total);
+
 /* What follows is defined here, in C, and uses only the functions above. */
 
 /* What a status says, in a few words. */
@@ -403,6 +457,11 @@ static inline const char *literal_status_text(int32_t status) {
     };
     bool is_known = status >= 0 && status < (int32_t)(sizeof texts / sizeof *texts);
     return is_known ? texts[status] : "no status of this library";
+}
+
+/* Whether a pattern ends with the text of a state. */
+static inline bool literal_is_match(uint32_t state) {
+    return state >= LITERAL_MATCH_STATE;
 }
 
 /* A search in memory of its own. The array may be passed to the functions above whose names end in _in. Any number of

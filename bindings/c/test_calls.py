@@ -342,6 +342,41 @@ class Words(unittest.TestCase):
             self.assertEqual(CALLS.literal_count_words_in(kind, *array, *asked, 0, 40, number), OK)
             self.assertEqual(number.value, 2)
 
+    def test_sides(self):
+        chance, found, page, number = random.Random(4), (Match * 20)(), Page(), ctypes.c_size_t()
+        for _ in range(1000):
+            words = [bytes(chance.choices(b"ab ", k=chance.randint(1, 3))) for _ in range(chance.randint(1, 3))]
+            text = bytes(chance.choices(b"ab ", k=chance.randint(0, 20)))
+            sides = bytes(chance.choices(b"a_-\xc3", k=len(text)))
+            taken = chance.choice((sides, None))
+            is_word = [it in b"ab_" for it in taken or text] + [False]
+            alone = [
+                (at, i, at + len(word)) for at in range(len(text)) for i, word in enumerate(words)
+                if text.startswith(word, at) and not is_word[at - 1] and not is_word[at + len(word)]
+            ]
+            wanted, at = [], 0
+            for start, i, end in alone:
+                if start >= at:
+                    wanted, at = [*wanted, (i, start, end)], end
+            asked = 0, *prepared(words, 1), text, len(text), taken, len(taken or b""), 0, len(text)
+            status = CALLS.literal_find_word_by_sides_in(*asked, found)
+            self.assertEqual(status, OK if wanted else NONE)
+            self.assertTrue(not wanted or fields(found[0]) == wanted[0])
+            self.assertEqual(CALLS.literal_find_all_words_by_sides_in(*asked, found, 20, page), OK)
+            self.assertEqual([fields(it) for it in found[: page.written]], wanted, (words, text, taken))
+            self.assertEqual(CALLS.literal_count_words_by_sides_in(*asked, number), OK)
+            self.assertEqual(number.value, len(wanted))
+
+    def test_sides_of_another_length(self):
+        array, found, page, number = prepared(self.WORDS, 1), Match(*BEFORE), Page(*BEFORE), ctypes.c_size_t(7)
+        room = (Match * 1)(found)
+        for len_of_sides in (1, 39, 41):
+            asked = 0, *array, self.TEXT, 40, b"-" * 41, len_of_sides, 0, 40
+            self.assertEqual(CALLS.literal_find_word_by_sides_in(*asked, found), BAD_ARGUMENTS)
+            self.assertEqual(CALLS.literal_find_all_words_by_sides_in(*asked, room, 1, page), BAD_ARGUMENTS)
+            self.assertEqual(CALLS.literal_count_words_by_sides_in(*asked, number), BAD_ARGUMENTS)
+        self.assertEqual((*fields(found), *fields(page), *fields(room[0]), number.value), (*BEFORE * 3, 7))
+
     def test_arguments(self):
         array, found, page, number = prepared(self.WORDS, 1), Match(*BEFORE), Page(*BEFORE), ctypes.c_size_t(7)
         room = (Match * 1)(found)

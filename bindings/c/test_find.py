@@ -174,7 +174,7 @@ class OnArm(Programs):
         for name in ("find", "stream"):
             on_arm = self.compiled_for_arm(name)
             here = self.compiled(name)
-            for count in (1, 2, 3, 8, 16, 32, 128, len(words)):
+            for count in (1, 2, 3, 8, 16, 32, 128, 400):
                 found = run(here, *words[:count], text=text)
                 self.assertEqual(run(*on_arm, *words[:count], text=text), found)
                 self.assertGreaterEqual(found[1].count("\n"), count)

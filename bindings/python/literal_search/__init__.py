@@ -29,20 +29,20 @@ except ImportError as why:
         raise
     raise ImportError("literal_search needs a processor of the level x86-64-v2 (SSE4.2 and POPCNT)") from why
 from ._native import __version__
-from ._types import Kind, Match
+from ._types import Column, Kind, Match
 
 if TYPE_CHECKING:
     from _typeshed import ReadableBuffer, StrPath, SupportsRead, SupportsWrite
 
     from ._native import _Offset, _Replacement
 
-    _Buffers = Iterable[Optional[ReadableBuffer]]
+    _Buffers = Union[Iterable[Optional[ReadableBuffer]], Column]
 
 __all__ = ["Kind", "Match", "Search", "__version__"]
 
 _Any = TypeVar("_Any", bound="Search[Any]")
 _Case = Union[bool, Literal["ascii"]]
-_Strs = Iterable[Optional[str]]
+_Strs = Union[Iterable[Optional[str]], Column]
 
 # A file of a searcher: these words first, the kind, 1 if case is ignored, 2 more for whole words, and 4 more if only the
 # case of ASCII is, though the patterns are str; whether the patterns are str, their number, their length and the length
@@ -59,10 +59,10 @@ class Search(_native.Prepared[AnyStr]):
     call folds a copy of its text. In bytes, and with `ignore_case="ascii"` in a str too, A to Z equal a to z, and all
     else is compared as it is.
 
-    With `whole_words` it finds a pattern only with no word character right before it and none right after it: A to Z, a
-    to z, 0 to 9 and the underscore, in a str too. The characters outside of text[start:end] count too. A pattern that is
-    no whole word hides no other one. Such a searcher has no calls for overlapping or earliest occurrences, nor for
-    streams: they raise ValueError.
+    With `whole_words` it finds a pattern only with no word character right before it and none right after it: what `\\w`
+    of `re` matches, in a str any letter or digit and the underscore, in bytes those of ASCII alone. The characters
+    outside of text[start:end] count too. A pattern that is no whole word hides no other one. Such a searcher has no
+    calls for overlapping or earliest occurrences, nor for streams: they raise ValueError.
 
     A pickle by protocol 5 has the prepared search too, out of band if a `buffer_callback` is given. The same version of
     the package then builds nothing. A pickle by an earlier protocol has the patterns alone.
@@ -176,13 +176,16 @@ class Search(_native.Prepared[AnyStr]):
         self: "Search[bytes]", texts: "_Buffers", skip_missing: bool = False
     ) -> List[Optional[Match[bytes]]]: ...
 
-    def find_each(self, texts: Iterable[Any], skip_missing: bool = False) -> List[Optional[Match[Any]]]:
-        """The leftmost match of each text, or None. Offsets are in that text. The texts may be a column of pandas, or
-        an array of numpy. With `skip_missing`, None and NaN, but not pandas.NA, count as a text without a match.
+    def find_each(self, texts: Any, skip_missing: bool = False) -> List[Optional[Match[Any]]]:
+        """The leftmost match of each text, or None. Offsets are in that text. The texts may be a column of pandas, an
+        array of numpy, or one of Arrow (texts or bytes with offsets, by `__arrow_c_array__`), whose texts are searched
+        where they are. With `skip_missing`, None and NaN, but not pandas.NA, count as a text without a match.
 
         >>> Search(["ERROR", "WARN"]).find_each(["a WARN", "fine", "ERROR"])
         [Match(pattern=1, start=2, end=6), None, Match(pattern=0, start=0, end=5)]
         """
+        if _is_column(texts):
+            return cast(List[Optional[Match[Any]]], self._each(texts, skip_missing, False))
         find: Callable[[Any], Optional[Match[Any]]] = self.find
         return [find(it) for it in _cells(self, texts, skip_missing)]
 
@@ -194,7 +197,7 @@ class Search(_native.Prepared[AnyStr]):
         self: "Search[bytes]", texts: "_Buffers", skip_missing: bool = False
     ) -> List[List[Match[bytes]]]: ...
 
-    def findall_each(self, texts: Iterable[Any], skip_missing: bool = False) -> List[List[Match[Any]]]:
+    def findall_each(self, texts: Any, skip_missing: bool = False) -> List[List[Match[Any]]]:
         """The list of all matches of each text, by `findall`. Texts are as of `find_each`.
 
         >>> Search(["a"]).findall_each(["b", "ab"])
@@ -209,12 +212,14 @@ class Search(_native.Prepared[AnyStr]):
     @overload
     def count_each(self: "Search[bytes]", texts: "_Buffers", skip_missing: bool = False) -> List[int]: ...
 
-    def count_each(self, texts: Iterable[Any], skip_missing: bool = False) -> List[int]:
+    def count_each(self, texts: Any, skip_missing: bool = False) -> List[int]:
         """The number of matches of each text, by `count`. Texts are as of `find_each`.
 
         >>> Search(["a"]).count_each(["b", "banana", None], skip_missing=True)
         [0, 3, 0]
         """
+        if _is_column(texts):
+            return cast(List[int], self._each(texts, skip_missing, True))
         count: Callable[[Any], int] = self.count
         return [count(it) for it in _cells(self, texts, skip_missing)]
 
@@ -460,6 +465,11 @@ def _encoded(pattern: Union[str, bytes]) -> bytes:
         raise ValueError(f"the pattern {pattern!r} has a lone surrogate, which is no character") from None
 
 
+def _is_column(of: Any) -> bool:
+    """Whether it is a column of Arrow: it lends its texts by the C data interface."""
+    return hasattr(type(of), "__arrow_c_array__")
+
+
 def _cells(searcher: "Search[Any]", texts: Iterable[Any], skip_missing: bool) -> Iterable[Any]:
     """Texts, and an empty one in the place of None and NaN if these are skipped."""
     if not skip_missing:
@@ -469,8 +479,10 @@ def _cells(searcher: "Search[Any]", texts: Iterable[Any], skip_missing: bool) ->
 
 
 def _many(of: Iterable[Any]) -> Iterable[Any]:
-    """Patterns or texts, also an array of objects, or of strings by numpy. A single text is refused: it would count as
-    its characters."""
+    """Patterns or texts, also an array of objects, of strings by numpy, or of texts by Arrow. A single text is refused:
+    it would count as its characters."""
+    if _is_column(of):
+        return _native.texts_of(of)
     if getattr(getattr(of, "dtype", None), "kind", None) in ("S", "U"):
         return of
     try:

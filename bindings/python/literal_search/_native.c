@@ -10,6 +10,7 @@
 #include <Python.h>
 #include <structmember.h>
 
+#include "_column.h"
 #include "_match.h"
 #include "_prepared.h"
 #include "_replace.h"
@@ -80,7 +81,8 @@ static PyObject *first_of(Prepared *self, PyObject *const *given, Py_ssize_t cou
     literal_match found;
     if (arguments(OF_SEARCH, 1, given, count, names, asked) || hold(&text, self->takes, asked[0]))
         return NULL;
-    if (!(wanted == THE_EARLIEST && prepare_for_all(self)) && !bounds(&text, asked[1], asked[2], &place, &end)) {
+    if (!(wanted == THE_EARLIEST && prepare_for_all(self)) && !bounds(&text, asked[1], asked[2], &place, &end) &&
+        !(self->whole_words && begin_sides(&text, place))) {
         int is_found = wanted == THE_EARLIEST ? find_earliest(self, &text, place.byte, end, &found)
                        : self->whole_words    ? find_first_word(self, &text, place.byte, end, &found)
                                               : find_first(self, &text, place.byte, end, &found);
@@ -164,9 +166,10 @@ static PyObject *string_of(Walk *walk, const literal_match *found) {
     const Pieces *pieces = &walk->search->pieces;
     PyObject *pattern = PyTuple_GET_ITEM(walk->search->patterns, (Py_ssize_t)found->pattern);
     size_t start = found->pattern > 0 ? pieces->ends[found->pattern - 1] : 0, len = found->end - found->start;
+    const uint8_t *bytes = pieces->bytes + start, *matched = walk->text.bytes + found->start;
     if (walk->search->takes != TAKES_FOLDED && pieces->ends[found->pattern] - start == len &&
-        (PyUnicode_CheckExact(pattern) || PyBytes_CheckExact(pattern)) &&
-        memcmp(pieces->bytes + start, walk->text.bytes + found->start, len) == 0)
+        (PyUnicode_CheckExact(pattern) || PyBytes_CheckExact(pattern)) && bytes[0] == matched[0] &&
+        (len == 1 || memcmp(bytes, matched, len) == 0))
         return Py_NewRef(pattern);
     Place first = walk->place;
     offset_of(&walk->text, &first, found->start);
@@ -276,11 +279,15 @@ static PyObject *search_find_columns(PyObject *self, PyObject *const *given, Py_
 /* How many matches a walk finds. */
 static PyObject *counted(Walk *walk) {
     size_t matches = 0;
-    while (walk_next(walk)) {
-        matches += 1 + walk->written - walk->given;
-        walk->given = walk->written;
+    while (!walk->is_done) {
+        if (is_countable(walk) ? count_matches(walk, &matches) : page_of_matches(walk))
+            return NULL;
+        matches += walk->written;
+        walk->written = 0;
+        if (!walk->is_done && (PyErr_CheckSignals() || (walk->room < walk->wanted && walk_widen(walk))))
+            return NULL;
     }
-    return PyErr_Occurred() ? NULL : PyLong_FromSize_t(matches);
+    return PyLong_FromSize_t(matches);
 }
 
 /* How many occurrences there are on a walk, also those that overlap. */
@@ -449,6 +456,22 @@ static PyObject *search_so_far(PyObject *of, PyObject *given) {
     return answer;
 }
 
+PyDoc_STRVAR(each_doc, "_each($self, column, skip_missing, counts, /)\n--\n\n"
+"The first match of each text of a column that has `__arrow_c_array__`, or the numbers of matches.");
+
+static PyObject *search_each(PyObject *of, PyObject *given) {
+    Prepared *self = (Prepared *)of;
+    PyObject *from, *answer = NULL;
+    Column column;
+    int skips, counts;
+    if (!PyArg_ParseTuple(given, "Opp:_each", &from, &skips, &counts) || hold_column(&column, from))
+        return NULL;
+    if (!check_type(self, &column))
+        answer = found_in_each(self, &column, skips, counts);
+    give_back_column(&column);
+    return answer;
+}
+
 /* ---- The iterator ---- */
 
 static PyObject *matches_next(PyObject *self) {
@@ -598,6 +621,19 @@ static PyObject *module_plain_bytes(PyObject *unused, PyObject *given) {
     return PyArg_ParseTuple(given, "Os:plain_bytes", &of, &name) ? plain_bytes(of, name) : NULL;
 }
 
+PyDoc_STRVAR(texts_of_doc, "texts_of(column, /)\n--\n\n"
+"The texts of a column that has `__arrow_c_array__`, as a list of str or bytes, with None for each that is missing.");
+
+static PyObject *module_texts_of(PyObject *unused, PyObject *from) {
+    Column column;
+    (void)unused;
+    if (hold_column(&column, from))
+        return NULL;
+    PyObject *texts = texts_of_column(&column);
+    give_back_column(&column);
+    return texts;
+}
+
 /* A pattern of a subclass of str can lead to its searcher, and so can a value. They let go what they lead to, so nothing
  * is cleared here. */
 static int search_traverse(PyObject *of, visitproc visit, void *arg) {
@@ -636,6 +672,7 @@ static PyMethodDef search_methods[] = {
     CALL(split),
     {"_prepare", search_prepare, METH_VARARGS, prepare_doc},
     {"_so_far", search_so_far, METH_VARARGS, so_far_doc},
+    {"_each", search_each, METH_VARARGS, each_doc},
     {"__sizeof__", search_sizeof, METH_NOARGS, sizeof_doc},
     {"__class_getitem__", Py_GenericAlias, METH_O | METH_CLASS, "Search[str] and Search[bytes], for annotations."},
     {0},
@@ -668,6 +705,7 @@ static PyTypeObject search_type = {
 
 static PyMethodDef module_methods[] = {
     {"plain_bytes", module_plain_bytes, METH_VARARGS, plain_bytes_doc},
+    {"texts_of", module_texts_of, METH_O, texts_of_doc},
     {0},
 };
 

@@ -11,6 +11,7 @@ _Columns = Tuple[array[int], array[int], array[int]]
 _Replacement = Union[AnyStr, Sequence[AnyStr], Callable[[Match[AnyStr]], AnyStr]]
 
 def plain_bytes(of: ReadableBuffer, name: str, /) -> bytes: ...
+def texts_of(column: Any, /) -> List[Any]: ...
 @final
 class Match(Tuple[int, int, int], Generic[AnyStr]):
     __match_args__ = ("pattern", "start", "end")
@@ -140,6 +141,7 @@ class Prepared(Generic[AnyStr]):
     def _so_far(
         self, part: AnyStr, start: int, before: int, more: bool, wanted: int, replacement: Any, /
     ) -> Tuple[Any, int, bool]: ...
+    def _each(self, column: Any, skip_missing: bool, counts: bool, /) -> List[Any]: ...
     def _prepare(
         self,
         patterns: Tuple[AnyStr, ...],

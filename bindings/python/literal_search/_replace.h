@@ -117,10 +117,30 @@ static PyObject *replacement_of(Walk *walk, PyObject *by, const literal_match *f
     return replacement;
 }
 
+/* What replaces each match, if it is the same for all: its bytes. */
+typedef struct {
+    const char *bytes; /* or NULL */
+    Py_ssize_t len;
+    PyObject *encoded; /* which has the bytes, or NULL if the replacement has them */
+} Same;
+
+static int same_for_all(Same *same, PyObject *by) {
+    *same = (Same){NULL, 0, NULL};
+    if (PyCallable_Check(by) || PyTuple_CheckExact(by))
+        return 0;
+    if (PyUnicode_Check(by))
+        return (same->bytes = utf8_of(by, &same->len, &same->encoded)) ? 0 : -1;
+    same->bytes = PyBytes_AS_STRING(by);
+    same->len = PyBytes_GET_SIZE(by);
+    return 0;
+}
+
 /* Writes the text from a byte up to a match, and what replaces it. */
-static int replace_one(Out *out, Walk *walk, PyObject *by, size_t at, const literal_match *found) {
+static int replace_one(Out *out, Walk *walk, PyObject *by, const Same *same, size_t at, const literal_match *found) {
     if (out_add(out, walk->text.shown + at, found->start - at))
         return -1;
+    if (same->bytes)
+        return out_add(out, same->bytes, (size_t)same->len);
     PyObject *one = replacement_of(walk, by, found);
     if (!one)
         return -1;
@@ -148,9 +168,12 @@ static PyObject *replaced(Walk *walk, PyObject *by, size_t most, size_t *done) {
     size_t at = 0;
     const literal_match *found = NULL;
     PyObject *answer = NULL;
+    Same same;
+    if (same_for_all(&same, by))
+        return NULL;
     out_begin(&out);
     for (*done = 0; *done < most && (found = walk_next(walk)); (*done)++) {
-        if (replace_one(&out, walk, by, at, found))
+        if (replace_one(&out, walk, by, &same, at, found))
             break;
         at = found->end;
     }
@@ -161,6 +184,7 @@ static PyObject *replaced(Walk *walk, PyObject *by, size_t most, size_t *done) {
             answer = written(&out, walk->text.is_str);
     }
     out_end(&out);
+    Py_XDECREF(same.encoded);
     return answer;
 }
 
@@ -170,8 +194,11 @@ static PyObject *part_replaced(Walk *walk, PyObject *by) {
     size_t at = walk->start;
     const literal_match *found = NULL;
     PyObject *answer = NULL;
+    Same same;
+    if (same_for_all(&same, by))
+        return NULL;
     out_begin(&out);
-    while ((found = walk_next(walk)) && !replace_one(&out, walk, by, at, found))
+    while ((found = walk_next(walk)) && !replace_one(&out, walk, by, &same, at, found))
         at = found->end;
     if (!PyErr_Occurred()) {
         searched_to(walk);
@@ -179,6 +206,7 @@ static PyObject *part_replaced(Walk *walk, PyObject *by) {
             answer = written(&out, walk->text.is_str);
     }
     out_end(&out);
+    Py_XDECREF(same.encoded);
     return answer;
 }
 

@@ -18,23 +18,26 @@ enum { SHORT = 1 << 12 /* bytes whose search takes less time than it takes to le
 /* Of which type the texts of a searcher are, as its patterns are. TAKES_FOLDED: they are str, and are folded. */
 typedef enum { NOT_PREPARED, TAKES_EITHER, TAKES_BYTES, TAKES_STR, TAKES_FOLDED } Takes;
 
+/* A place in a text: how many bytes, and how many of what its offsets count, stand before it. */
+typedef struct {
+    size_t byte;
+    size_t offset;
+} Place;
+
 /* A text that is held, and its bytes. */
 typedef struct {
     PyObject *of;     /* the text, or NULL once it is given back */
     Py_buffer buffer; /* its buffer, unless it is a str */
     PyObject *encoded; /* the bytes of a str with a lone surrogate, or NULL */
     PyObject *folded;  /* the folded bytes of a str, or NULL */
+    PyObject *aside;   /* the bytes of the sides, or NULL */
+    uint8_t *sides;    /* those that are looked up next to a whole word, or NULL for those that are searched */
+    Place made;        /* up to where the sides are made */
     const uint8_t *bytes, *shown; /* those that are searched, and those of the text itself: two arrays if it is folded */
     size_t len;
     bool is_str;
     bool is_wide; /* whether it is a str in which a character has more than one byte */
 } Text;
-
-/* A place in a text: how many bytes, and how many of what its offsets count, stand before it. */
-typedef struct {
-    size_t byte;
-    size_t offset;
-} Place;
 
 /* Whether a buffer's items are, or hold, objects: their bytes are addresses. */
 static bool has_objects(const char *format) {
@@ -129,7 +132,8 @@ static int hold_str(Text *text, PyObject *of, bool folds) {
 /* Holds a text, of the type that is taken. */
 static int hold(Text *text, Takes takes, PyObject *of) {
     bool is_str = PyUnicode_Check(of);
-    text->of = text->buffer.obj = text->encoded = text->folded = NULL;
+    text->of = text->buffer.obj = text->encoded = text->folded = text->aside = NULL;
+    text->sides = NULL;
     text->is_str = is_str;
     text->is_wide = false;
     if (takes == NOT_PREPARED)
@@ -149,6 +153,7 @@ static void give_back(Text *text) {
         PyBuffer_Release(&text->buffer);
     Py_CLEAR(text->encoded);
     Py_CLEAR(text->folded);
+    Py_CLEAR(text->aside);
     Py_CLEAR(text->of);
 }
 
@@ -192,6 +197,43 @@ static size_t byte_of(const Text *text, Place *place, size_t offset) {
         place->offset += begins;
     }
     return place->byte;
+}
+
+/* The byte for each byte of a character: it is one of `\w` exactly if the character is, as `re` takes it. */
+static uint8_t side_of(Py_UCS4 character) {
+    return character < 0x80 ? (uint8_t)character : Py_UNICODE_ISALNUM(character) ? 'a' : ' ';
+}
+
+/* Makes room for the sides of a str with characters beyond ASCII, from the character before a place on: a search that
+ * begins there looks up none before. */
+static int begin_sides(Text *text, Place at) {
+    if (!text->is_wide)
+        return 0;
+    text->aside = PyBytes_FromStringAndSize(NULL, (Py_ssize_t)text->len);
+    if (!text->aside)
+        return -1;
+    text->sides = (uint8_t *)PyBytes_AS_STRING(text->aside);
+    for (bool goes_on = at.offset > 0; goes_on; goes_on = (text->bytes[at.byte] & 0xC0) == 0x80)
+        at.byte--;
+    at.offset -= at.offset > 0;
+    text->made = at;
+    return 0;
+}
+
+/* Makes the sides up to the one at byte `last`, if there are any: a search that ends there looks up none behind it. */
+static void make_sides(Text *text, size_t last) {
+    if (!text->sides)
+        return;
+    Place at = text->made;
+    int kind = PyUnicode_KIND(text->of);
+    const void *data = PyUnicode_DATA(text->of);
+    for (; at.byte <= last && at.byte < text->len; at.offset++) {
+        uint8_t side = side_of(PyUnicode_READ(kind, data, at.offset));
+        do
+            text->sides[at.byte++] = side;
+        while (at.byte < text->len && (text->bytes[at.byte] & 0xC0) == 0x80);
+    }
+    text->made = at;
 }
 
 /* An offset as it stands in a slice. */

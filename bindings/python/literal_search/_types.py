@@ -1,5 +1,6 @@
-"""The kinds of match, and the match."""
+"""The kinds of match, the match, and columns of texts."""
 import enum
+from typing import Any, Protocol, Tuple
 
 from ._native import Match as Match
 
@@ -11,3 +12,9 @@ class Kind(enum.IntEnum):
     LEFTMOST_FIRST = 0
     #: the longest, and of several equally long ones the earliest in the list
     LEFTMOST_LONGEST = 1
+
+
+class Column(Protocol):
+    """What lends texts, or bytes, by the C data interface of Arrow."""
+
+    def __arrow_c_array__(self, requested_schema: Any = None) -> Tuple[Any, Any]: ...

@@ -49,10 +49,10 @@ static size_t end_of_piece(const Prepared *search, size_t at, size_t end) {
     return end - at > len ? at + len : end;
 }
 
-/* Cuts the next piece from the bytes between `at` and `end`. Every occurrence that begins before the cut ends within
- * the piece. So the matches of the piece that begin there are right; what follows is searched again from the cut on. */
-static size_t cut_piece(const Prepared *search, size_t at, size_t end, size_t *piece_end) {
-    size_t len = piece_len(search);
+/* Cuts the next piece, of at most `len` bytes, from those between `at` and `end`. Every occurrence that begins before the
+ * cut ends within the piece. So the matches of the piece that begin there are right; what follows is searched again from
+ * the cut on. */
+static size_t cut_piece(const Prepared *search, size_t len, size_t at, size_t end, size_t *piece_end) {
     size_t cut = end - at > len ? at + len : end;
     *piece_end = end - cut > search->pieces.longest ? cut + search->pieces.longest : end;
     return *piece_end == end ? end : cut;
@@ -107,15 +107,18 @@ static int find_first(const Prepared *search, const Text *text, size_t at, size_
 }
 
 /* Finds the first whole word between two places, as find_first does. The library is handed the whole text, since what is
- * next to a word counts. */
-static int find_first_word(const Prepared *search, const Text *text, size_t at, size_t end, literal_match *found) {
-    size_t words_len, piece_end;
+ * next to a word counts. If sides are to be made, the first pieces are short, so that few are. */
+static int find_first_word(const Prepared *search, Text *text, size_t at, size_t end, literal_match *found) {
+    size_t longest = search->pieces.longest, words_len, piece_end;
+    size_t len = !text->sides ? piece_len(search) : SHORT > longest ? SHORT : longest;
     const uint32_t *words = words_of(search->prepared, &words_len);
-    while (at < end) {
-        size_t cut = cut_piece(search, at, end, &piece_end);
+    for (; at < end; len *= 2) {
+        len = len < piece_len(search) ? len : piece_len(search);
+        size_t cut = cut_piece(search, len, at, end, &piece_end);
         PyThreadState *state = let_others_run(piece_end - at);
-        int32_t status = literal_find_word_in((uint32_t)search->kind, words, words_len, text->bytes, text->len, at,
-                                              piece_end, found);
+        make_sides(text, piece_end);
+        int32_t status = literal_find_word_by_sides_in((uint32_t)search->kind, words, words_len, text->bytes, text->len,
+                                                       text->sides, text->sides ? text->len : 0, at, piece_end, found);
         come_back(state);
         if (status != LITERAL_OK && status != LITERAL_NONE)
             return refuse(status);
@@ -159,7 +162,8 @@ static int walk_begin(Walk *walk, Prepared *search, bool for_all, PyObject *cons
     if (hold(&walk->text, search->takes, asked[0]))
         return -1;
     if ((for_all && prepare_for_all(search)) ||
-        bounds(&walk->text, asked[1], asked[2], &walk->place, &walk->end)) {
+        bounds(&walk->text, asked[1], asked[2], &walk->place, &walk->end) ||
+        (search->whole_words && begin_sides(&walk->text, walk->place))) {
         give_back(&walk->text);
         return -1;
     }
@@ -229,15 +233,18 @@ static int take_page(Walk *walk, const literal_page *page, size_t cut, size_t pi
 
 /* Finds the matches of the next piece of a text, as many as there is room for, in one call. */
 static int matches_of_piece(Walk *walk) {
-    size_t words_len, piece_end, cut = cut_piece(walk->search, walk->at, walk->end, &piece_end);
+    size_t words_len, piece_end;
+    size_t cut = cut_piece(walk->search, piece_len(walk->search), walk->at, walk->end, &piece_end);
     const uint32_t *words = words_of(walk->search->prepared, &words_len);
-    const Text *text = &walk->text;
+    Text *text = &walk->text;
     literal_page page;
     int32_t status;
     PyThreadState *state = let_others_run(piece_end - walk->at);
+    make_sides(text, piece_end);
     if (walk->search->whole_words)
-        status = literal_find_all_words_in((uint32_t)walk->search->kind, words, words_len, text->bytes, text->len,
-                                           walk->at, piece_end, walk->matches, walk->room, &page);
+        status = literal_find_all_words_by_sides_in((uint32_t)walk->search->kind, words, words_len, text->bytes,
+                                                    text->len, text->sides, text->sides ? text->len : 0, walk->at,
+                                                    piece_end, walk->matches, walk->room, &page);
     else
         status = literal_find_all_in(words, words_len, text->bytes, text->len, walk->at, piece_end, walk->matches,
                                      walk->room, &page);
@@ -269,6 +276,37 @@ static int matches_one_by_one(Walk *walk) {
 static int page_of_matches(Walk *walk) {
     bool is_alone = walk->is_part || (walk->room == 1 && !walk->search->whole_words);
     return is_alone ? matches_one_by_one(walk) : matches_of_piece(walk);
+}
+
+/* Whether the next piece can be counted alone: it is the last one, or no match reaches over its end. With patterns of more
+ * than 1,024 bytes a call might take too long. */
+static bool is_countable(const Walk *walk) {
+    size_t longest = walk->search->pieces.longest;
+    return !walk->is_part && longest <= 1024 &&
+           (longest <= 1 || end_of_piece(walk->search, walk->at, walk->end) == walk->end);
+}
+
+/* Counts the matches of the next piece. */
+static int count_matches(Walk *walk, size_t *count) {
+    size_t words_len, found = 0, end = end_of_piece(walk->search, walk->at, walk->end);
+    const uint32_t *words = words_of(walk->search->prepared, &words_len);
+    Text *text = &walk->text;
+    int32_t status;
+    PyThreadState *state = let_others_run(end - walk->at);
+    make_sides(text, end);
+    if (walk->search->whole_words)
+        status = literal_count_words_by_sides_in((uint32_t)walk->search->kind, words, words_len, text->bytes,
+                                                 text->len, text->sides, text->sides ? text->len : 0, walk->at, end,
+                                                 &found);
+    else
+        status = literal_count_in(words, words_len, text->bytes, text->len, walk->at, end, &found);
+    come_back(state);
+    if (status != LITERAL_OK)
+        return refuse(status);
+    *count += found;
+    walk->at = end;
+    walk->is_done = end == walk->end;
+    return 0;
 }
 
 /* Takes over what ends behind `at`, and is whole: where there was not room for all, what ends with the last that was

@@ -331,7 +331,7 @@ class Signals(unittest.TestCase):
                     self.assertLess(kibibytes_read(file.name), 2048)
 
     def test_between_pages_of_matches(self):
-        searcher, text = Search([b"a" * 1000 + b"b", b"a"]), bytearray(b"a" * 100000)
+        searcher, text = Search([b"a" * 1000 + b"b", b"a"]), bytearray(b"a" * (1 << 21))
         for call in (searcher.findall, searcher.count, searcher.find_overlapping, functools.partial(searcher.sub, b"")):
             self.assertEqual(self.interrupted(map(call, [text], [Raising()])), [])
             text += b"a"  # (it is given back)

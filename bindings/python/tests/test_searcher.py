@@ -428,7 +428,7 @@ def by_re(words, kind, text, start=0):
     """All whole words, by a regular expression: of equally long ones the first in the list."""
     order = sorted(range(len(words)), key=lambda i: -len(words[i])) if kind == LONGEST else range(len(words))
     one_of = "|".join(f"({re.escape(words[i])})" for i in order)
-    found = re.compile(f"(?<![A-Za-z0-9_])(?:{one_of})(?![A-Za-z0-9_])").finditer(text, start)
+    found = re.compile(rf"(?<!\w)(?:{one_of})(?!\w)").finditer(text, start)
     return [(order[it.lastindex - 1], it.start(), it.end()) for it in found]
 
 
@@ -454,13 +454,30 @@ class Words(unittest.TestCase):
 
     def test_random(self):
         chance = random.Random(8)
-        for _ in range(2000):
-            words = ["".join(chance.choices("ab _-é", k=chance.randint(1, 4))) for _ in range(chance.randint(1, 4))]
-            text, kind = "".join(chance.choices("aabb  _-é", k=chance.randint(0, 30))), chance.choice(list(Kind))
+        for _ in range(4000):
+            words = ["".join(chance.choices("ab _-é→", k=chance.randint(1, 4))) for _ in range(chance.randint(1, 4))]
+            letters = chance.choice(["aabb  _-", "aabb  _-é→", "ab  é²ß→\u0301\u0663中😀𝐚"])
+            text, kind = "".join(chance.choices(letters, k=chance.randint(0, 30))), chance.choice(list(Kind))
             searcher, start = Search(words, kind, whole_words=True), chance.randint(0, len(text))
             wanted = by_re(words, kind, text, start)
             self.assertEqual(searcher.findall(text, start), wanted, (words, text))
             self.assertEqual(searcher.find(text, start), wanted[0] if wanted else None, (words, text))
+
+    def test_word_characters(self):
+        searcher = Search(["lan"], whole_words=True)
+        self.assertEqual(searcher.findall("élan lan→lan² lan"), [(0, 5, 8), (0, 14, 17)])
+        self.assertEqual(list(searcher.finditer("élan lan→lan² lan", 6)), [(0, 14, 17)])
+        self.assertEqual((searcher.find("élan", 1), searcher.find("lané", 0, 3)), (None, None))
+        self.assertEqual(searcher.find("→lan→", 1, 4), (0, 1, 4))
+        self.assertEqual(searcher.sub("-", "élan, lan"), "élan, -")
+        every = "".join(map(chr, range(0x110000)))
+        with_each = "".join(f"a{it} " for it in every)
+        wanted = [i for i, it in enumerate(every) if not re.match(r"\w", it)]
+        self.assertEqual([it.start // 3 for it in Search(["a"], whole_words=True).finditer(with_each)], wanted)
+        searcher = Search(["ÉTÉ"], ignore_case=True, whole_words=True)
+        self.assertEqual(searcher.findall("l'été, étés Été"), [(0, 2, 5), (0, 12, 15)])
+        bytes_of = Search(["lan".encode()], whole_words=True)
+        self.assertEqual(bytes_of.findall("élan".encode()), [(0, 2, 5)])
 
     def test_long_texts(self):
         # (with a pattern of more than 1,024 bytes each match costs a search of its own, so there are fewer)
@@ -471,6 +488,15 @@ class Words(unittest.TestCase):
             self.assertEqual(searcher.find(text), (words.index(b"ab"), 2_500_000, 2_500_002))
             for cut in range(1_048_570, 1_048_582):
                 self.assertEqual(searcher.findall(b" " * cut + b"abc d"), [(words.index(b"abc d"), cut, cut + 5)])
+
+    def test_long_texts_beyond_ascii(self):
+        searcher = Search(["abc d", "ab"], whole_words=True)
+        for piece in (4096, 3 * 4096, 7 * 4096, 2**20):
+            for spaces in range(piece - 10, piece + 4):
+                text = "é" + " " * spaces
+                self.assertEqual(searcher.find(text + "abc dé abc d"), (0, spaces + 8, spaces + 13))
+                self.assertEqual(searcher.findall(text + "éab ab→ab²"), [(1, spaces + 5, spaces + 7)])
+                self.assertEqual(searcher.find(text + "→ab→" + "é" * 9000, 9), (1, spaces + 2, spaces + 4))
 
     def test_copies(self):
         searcher = Search(["ab", "a"], LONGEST, True, True)
@@ -894,6 +920,14 @@ class Pieces(unittest.TestCase):
                         text[cut + at : cut + at + len(word)] = word
                     self.assertGreaterEqual(len(self.compared(words, kind, bytes(text))), 2)
 
+    def test_one_letter(self):
+        text = b"eaxe" * (self.PIECE // 2 + 5)
+        for words in [b"e"], [b"a", b"e"], [b"q"]:
+            self.assertEqual(Search(words).count(text), sum(map(text.count, words)))
+        self.assertEqual(Search([b"E"], ignore_case=True).count(text, 3), text.count(b"e", 3))
+        self.assertEqual(Search([b"e"], whole_words=True).count(b"e " * self.PIECE + b"ee"), self.PIECE)
+        self.assertEqual(Search(["ä"]).count("aä" * self.PIECE), self.PIECE)
+
     def test_many_matches(self):
         chance = random.Random(4)
         text = b"".join(chance.choices((b"ab", b"abc", b"b", b"cab", b"x" * 7), k=600000))
@@ -952,14 +986,17 @@ class RefusedMemory(unittest.TestCase):
     def test_all_requests_refused(self):
         """By an allocator before the C library's, which refuses while the environment says so."""
         process, searcher, text = ctypes.CDLL(None), Search(WORDS), b"apple" * 10000
-        for call in (lambda: Search([b"%d" % it for it in range(2000)]), lambda: searcher.count(text)):
+        of_words, accented = Search(["a"], whole_words=True), "é a" * 10000
+        self.assertEqual(of_words.count(accented), 1)  # (only the last is no part of `aé`)
+        for call in (lambda: Search([b"%d" % it for it in range(2000)]), lambda: searcher.findall(text),
+                     lambda: of_words.find(accented), lambda: of_words.findall(accented)):
             with self.assertRaises(MemoryError):
                 process.setenv(b"REFUSED_REQUEST", b"0", 1)
                 try:
                     call()
                 finally:
                     process.unsetenv(b"REFUSED_REQUEST")
-        self.assertEqual(searcher.count(text), 10000)
+        self.assertEqual((searcher.count(text), of_words.count(accented)), (10000, 1))
 
 
 if __name__ == "__main__":

@@ -1,6 +1,9 @@
-//! The names of the original's automata. Each is a searcher of this crate; none can be stepped from state to state, since
-//! the library exports no such call.
+//! The names of the original's automata. Each is a searcher of this crate. By the standard kind it can be stepped from
+//! state to state, unanchored.
+use crate::declared::{MATCH_STATE, START_STATE};
+use crate::searcher::done;
 use crate::{AhoCorasick, MatchError, MatchKind};
+use alloc::vec;
 
 pub use crate::iterators::FindIter;
 pub use crate::occurrences::{FindOverlappingIter, OverlappingState};
@@ -10,6 +13,25 @@ pub use crate::settings::Anchored;
 #[cfg(feature = "std")]
 pub use crate::stream::StreamFindIter;
 
+/// A state of an [`Automaton`]. Two states of one automaton are equal if the longest suffixes with which a pattern begins
+/// are, of the bytes that led to them.
+///
+/// The number of a state has 32 bits: unlike in the original, it may be larger than [`PatternID::MAX`], and is no index.
+#[derive(Clone, Copy, Debug, PartialEq, Eq, PartialOrd, Ord, Hash)]
+pub struct StateID(u32);
+
+impl StateID {
+    /// The number as a `u32`.
+    pub const fn as_u32(&self) -> u32 {
+        self.0
+    }
+
+    /// The number as a `usize`.
+    pub const fn as_usize(&self) -> usize {
+        self.0 as usize
+    }
+}
+
 mod sealed {
     pub trait Sealed {
         fn searcher(&self) -> &crate::AhoCorasick;
@@ -18,7 +40,8 @@ mod sealed {
 
 pub(crate) use sealed::Sealed;
 
-/// The searches of [`dfa::DFA`](crate::dfa::DFA) and of both kinds of [`nfa`](crate::nfa), as of [`AhoCorasick`].
+/// The searches of [`dfa::DFA`](crate::dfa::DFA) and of both kinds of [`nfa`](crate::nfa), as of [`AhoCorasick`], and
+/// their states.
 ///
 /// ```
 /// use aho_corasick::automaton::Automaton;
@@ -28,7 +51,94 @@ pub(crate) use sealed::Sealed;
 /// assert_eq!(automaton.try_find(&Input::new("a dog")), Ok(Some(Match::must(1, 2..5))));
 /// # Ok::<(), aho_corasick::BuildError>(())
 /// ```
+///
+/// A loop over states finds every occurrence. The calls that take a state have no meaning for one of another automaton,
+/// and may panic.
+///
+/// ```
+/// use aho_corasick::automaton::Automaton;
+/// use aho_corasick::{dfa::DFA, Anchored, PatternID};
+///
+/// let automaton = DFA::new(["append", "app", "end"])?;
+/// let mut state = automaton.start_state(Anchored::No)?;
+/// for byte in *b"append" {
+///     state = automaton.next_state(Anchored::No, state, byte);
+/// }
+/// assert!(automaton.is_match(state) && automaton.match_len(state) == 2);
+/// assert_eq!(automaton.match_pattern(state, 0), PatternID::must(0));
+/// assert_eq!(automaton.match_pattern(state, 1), PatternID::must(2));
+/// # Ok::<(), Box<dyn std::error::Error>>(())
+/// ```
 pub trait Automaton: Sealed {
+    /// The state before the first byte. The first call builds the array for every occurrence, if the builder did not.
+    ///
+    /// # Errors
+    ///
+    /// If the kind of match is not [`MatchKind::Standard`], for anchored searches, with
+    /// [`StartKind::Anchored`](crate::StartKind::Anchored), or if the array can't be built.
+    fn start_state(&self, anchored: Anchored) -> Result<StateID, MatchError> {
+        self.searcher().check(anchored)?;
+        self.searcher().every()?;
+        if anchored.is_anchored() {
+            return Err(MatchError::invalid_input_anchored());
+        }
+        Ok(StateID(START_STATE))
+    }
+
+    /// The state after one more byte. Searches are never anchored. Each call calls the library, which takes many times as
+    /// long as the look-up: a search that this crate makes is much faster than a loop over states.
+    ///
+    /// # Panics
+    ///
+    /// If the automaton has no state like this one.
+    #[inline]
+    fn next_state(&self, _anchored: Anchored, state: StateID, byte: u8) -> StateID {
+        StateID(done(self.searcher().every()).prepared.next_state(state.0, byte))
+    }
+
+    /// Whether a search has to look at the state: here, whether a pattern ends there.
+    #[inline]
+    fn is_special(&self, state: StateID) -> bool {
+        self.is_match(state)
+    }
+
+    /// Whether no pattern can end any more. Never, since no search is anchored.
+    #[inline]
+    fn is_dead(&self, _state: StateID) -> bool {
+        false
+    }
+
+    /// Whether a pattern ends with the bytes that led to the state.
+    #[inline]
+    fn is_match(&self, state: StateID) -> bool {
+        state.0 >= MATCH_STATE
+    }
+
+    /// Whether it is the state before the first byte. A search comes back there while no pattern has begun.
+    #[inline]
+    fn is_start(&self, state: StateID) -> bool {
+        state.0 == START_STATE
+    }
+
+    /// How many patterns end with the bytes that led to the state.
+    fn match_len(&self, state: StateID) -> usize {
+        done(self.searcher().every()).prepared.patterns_at(state.0, &mut [])
+    }
+
+    /// The pattern with an index among those that end with the bytes that led to the state: the longest first, and of
+    /// equal ones the first in the list. Each call sorts them all.
+    ///
+    /// # Panics
+    ///
+    /// If the index is not below [`Automaton::match_len`].
+    fn match_pattern(&self, state: StateID, index: usize) -> PatternID {
+        let (searcher, prepared) = (self.searcher(), done(self.searcher().every()).prepared);
+        let mut numbers = vec![0; prepared.patterns_at(state.0, &mut [])];
+        prepared.patterns_at(state.0, &mut numbers);
+        numbers.sort_by_key(|it| core::cmp::Reverse(searcher.pattern_len(PatternID::of(*it))));
+        PatternID::of(numbers[index])
+    }
+
     /// [`AhoCorasick::try_find`].
     fn try_find(&self, input: &Input<'_>) -> Result<Option<Match>, MatchError> {
         self.searcher().try_find(input.clone())
@@ -60,6 +170,15 @@ pub trait Automaton: Sealed {
     /// [`AhoCorasick::patterns_len`].
     fn patterns_len(&self) -> usize {
         self.searcher().patterns_len()
+    }
+
+    /// The length of a pattern.
+    ///
+    /// # Panics
+    ///
+    /// If there is none with this number.
+    fn pattern_len(&self, pattern: PatternID) -> usize {
+        self.searcher().pattern_len(pattern)
     }
 
     /// [`AhoCorasick::min_pattern_len`].

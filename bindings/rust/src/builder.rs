@@ -105,7 +105,7 @@ impl AhoCorasickBuilder {
             longest: pieces.longest,
             leftmost,
             is_picked,
-            pieces: Some(pieces).filter(|_| is_standard),
+            pieces,
             every,
         }))
     }

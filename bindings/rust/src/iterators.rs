@@ -1,6 +1,8 @@
 //! Matches that do not overlap, one after another.
 use crate::leftmost::Leftmost;
+use crate::picking::Picking;
 use crate::{AhoCorasick, FindOverlappingIter, Input, Match, Span};
+use alloc::boxed::Box;
 use alloc::vec::Vec;
 use core::fmt;
 use core::iter::FusedIterator;
@@ -22,6 +24,8 @@ pub struct FindIter<'a, 'h>(Way<'a, 'h>);
 #[derive(Clone, Debug)]
 enum Way<'a, 'h> {
     Pages(Pages<'a, 'h>),
+    /// By a leftmost kind with a long pattern, and the way to go on.
+    Long(Box<Long<'a, 'h>>),
     /// Of an input that is anchored, or asks for earliest matches.
     OneByOne(&'a AhoCorasick, Input<'h>),
     /// Of every occurrence, each that begins after the match before, which ends there.
@@ -32,6 +36,13 @@ impl<'a, 'h> FindIter<'a, 'h> {
     #[inline]
     pub(crate) fn pages(search: &'a Leftmost, haystack: &'h [u8], span: Span) -> FindIter<'a, 'h> {
         FindIter(Way::Pages(Pages::new(search, haystack, span)))
+    }
+
+    pub(crate) fn long(searcher: &'a AhoCorasick, pages: FindIter<'a, 'h>) -> FindIter<'a, 'h> {
+        match pages.0 {
+            Way::Pages(pages) => FindIter(Way::Long(Box::new(Long { searcher, pages, picking: None }))),
+            other => FindIter(other),
+        }
     }
 
     pub(crate) fn picked(all: FindOverlappingIter<'a, 'h>) -> FindIter<'a, 'h> {
@@ -50,6 +61,7 @@ impl Iterator for FindIter<'_, '_> {
     fn next(&mut self) -> Option<Match> {
         match &mut self.0 {
             Way::Pages(pages) => pages.next(),
+            Way::Long(long) => long.next(),
             Way::OneByOne(searcher, input) => {
                 let found = searcher.search(input)?;
                 input.set_start(found.end());
@@ -137,6 +149,11 @@ impl<'a, 'h> Pages<'a, 'h> {
         found
     }
 
+    /// Whether the next match is the first one of a page.
+    fn is_given(&self) -> bool {
+        self.singles == 0 && self.given == self.written
+    }
+
     /// Finds one match.
     fn single(&mut self) -> Option<Match> {
         let found = self.search.find(self.haystack, self.rest);
@@ -156,6 +173,53 @@ impl<'a, 'h> Pages<'a, 'h> {
         self.rest.start = page.next;
         (self.written, self.given) = (page.written, 0);
         self.is_last = page.is_last == 1;
+    }
+}
+
+/// The matches of a leftmost kind with a pattern after whose matches the library searches anew. Where matches lie close
+/// together, they are picked from every occurrence instead.
+#[derive(Clone)]
+struct Long<'a, 'h> {
+    searcher: &'a AhoCorasick,
+    pages: Pages<'a, 'h>,
+    picking: Option<Picking<'a, 'h>>,
+}
+
+impl Long<'_, '_> {
+    fn next(&mut self) -> Option<Match> {
+        loop {
+            let start = self.pages.rest.start;
+            if let Some(picking) = &mut self.picking {
+                let found = picking.next()?;
+                self.pages.rest.start = found.end();
+                if !self.searcher.are_close(1, found.end() - start) {
+                    self.picking = None;
+                }
+                return Some(found);
+            }
+            let is_page = self.pages.is_given();
+            let found = self.pages.next();
+            if !is_page
+                || self.pages.is_last
+                || !self.searcher.are_close(self.pages.written, self.pages.rest.start - start)
+            {
+                return found;
+            }
+            // (the page is dropped, and its matches are picked again)
+            let input = Input::new(self.pages.haystack).span(start..self.pages.rest.end);
+            self.picking = self.searcher.picking(&input);
+            if self.picking.is_none() {
+                return found;
+            }
+            self.pages.rest.start = start;
+            self.pages.given = self.pages.written;
+        }
+    }
+}
+
+impl fmt::Debug for Long<'_, '_> {
+    fn fmt(&self, f: &mut fmt::Formatter<'_>) -> fmt::Result {
+        f.debug_struct("Long").field("pages", &self.pages).finish_non_exhaustive()
     }
 }
 

@@ -3,12 +3,13 @@ use crate::lazy::Lazy;
 use crate::leftmost::Leftmost;
 use crate::library::Prepared;
 use crate::occurrences::{Every, FindOverlappingIter, OverlappingState};
+use crate::picking::Picking;
 use crate::pieces::Pieces;
 #[cfg(feature = "std")]
 use crate::stream::{Room, MOST};
 use crate::{
     AhoCorasickBuilder, AhoCorasickKind, Anchored, BuildError, FindIter, Input, Match, MatchError, MatchErrorKind,
-    MatchKind, Span, StartKind,
+    MatchKind, PatternID, Span, StartKind,
 };
 use alloc::sync::Arc;
 use core::fmt;
@@ -33,9 +34,9 @@ pub(crate) struct Parts {
     pub leftmost: Leftmost,
     /// Whether an iteration picks its matches from every occurrence, by the standard kind alone.
     pub is_picked: bool,
-    /// The patterns, by the standard kind alone: `every` is built of them.
-    pub pieces: Option<Pieces>,
-    /// The array for every occurrence, by the standard kind alone.
+    /// The patterns, of which `every` is built.
+    pub pieces: Pieces,
+    /// The array for every occurrence. By a leftmost kind matches of long patterns may be picked from them.
     pub every: Lazy<Prepared>,
 }
 
@@ -181,8 +182,23 @@ impl AhoCorasick {
             // (the builder built the array)
             FindIter::picked(FindOverlappingIter::new(done(self.every()), &input))
         } else {
-            FindIter::pages(&self.parts.leftmost, input.haystack(), input.searched())
+            let pages = FindIter::pages(&self.parts.leftmost, input.haystack(), input.searched());
+            if self.parts.leftmost.is_fast() {
+                return pages;
+            }
+            FindIter::long(self, pages)
         }
+    }
+
+    /// Whether so many matches in so many bytes lie so close together that it takes less to pick them from every
+    /// occurrence, of which each byte may end one for each pattern, than to search anew after each match.
+    pub(crate) fn are_close(&self, count: usize, len: usize) -> bool {
+        self.parts.patterns_len.saturating_mul(len) <= self.parts.longest.saturating_mul(count)
+    }
+
+    /// The matches by a leftmost kind, picked from every occurrence, unless the array for that can't be built.
+    pub(crate) fn picking<'a, 'h>(&'a self, input: &Input<'h>) -> Option<Picking<'a, 'h>> {
+        Some(Picking::new(self.built().ok()?, self.parts.kind, input))
     }
 
     /// Every occurrence, also overlapping and nested ones: ordered by ends, at one end the longest first, and of equal
@@ -331,11 +347,17 @@ impl AhoCorasick {
     }
 
     /// The search for every occurrence, which the first call builds.
-    fn every(&self) -> Result<Every<'_>, MatchError> {
-        let Parts { kind, ignore_case, longest, ref pieces, ref every, .. } = *self.parts;
-        let pieces = pieces.as_ref().ok_or_else(|| MatchError::unsupported_overlapping(kind))?;
-        let built = every.get_or_try(|| Prepared::overlapping(ignore_case, pieces));
-        let prepared = built.map_err(|why| MatchError::new(MatchErrorKind::NotBuilt { why }))?;
+    pub(crate) fn every(&self) -> Result<Every<'_>, MatchError> {
+        if self.parts.kind != MatchKind::Standard {
+            return Err(MatchError::unsupported_overlapping(self.parts.kind));
+        }
+        self.built().map_err(|why| MatchError::new(MatchErrorKind::NotBuilt { why }))
+    }
+
+    /// The same by any kind.
+    fn built(&self) -> Result<Every<'_>, BuildError> {
+        let Parts { ignore_case, longest, ref pieces, ref every, .. } = *self.parts;
+        let prepared = every.get_or_try(|| Prepared::overlapping(ignore_case, pieces))?;
         Ok(Every { prepared, longest })
     }
 
@@ -383,6 +405,11 @@ impl AhoCorasick {
         self.parts.patterns_len
     }
 
+    /// The length of a pattern, by its number.
+    pub(crate) fn pattern_len(&self, pattern: PatternID) -> usize {
+        self.parts.pieces.get(pattern.as_u32()).len()
+    }
+
     /// The length of the shortest pattern, and 0 without patterns.
     pub fn min_pattern_len(&self) -> usize {
         self.parts.shortest
@@ -396,9 +423,8 @@ impl AhoCorasick {
     /// How many bytes the searcher takes in memory, with the array for every occurrence once that is built.
     pub fn memory_usage(&self) -> usize {
         let Parts { leftmost, pieces, every, .. } = &*self.parts;
-        let standard = pieces.as_ref().map_or(0, Pieces::memory_usage);
         let every = every.get().map_or(0, |it| core::mem::size_of::<Prepared>() + it.memory_usage());
-        core::mem::size_of::<Parts>() + leftmost.memory_usage() + standard + every
+        core::mem::size_of::<Parts>() + leftmost.memory_usage() + pieces.memory_usage() + every
     }
 }
 

@@ -5,4 +5,5 @@ pub mod Inside
 pub mod Overlapping
 pub mod Pieces
 pub mod SoFar
+pub mod States
 pub mod Words

@@ -39,7 +39,11 @@ mod pieces;
 #[cfg(test)]
 mod prepared_tests;
 mod resumed;
+mod sides;
 mod so_far;
+#[cfg(test)]
+mod state_tests;
+mod states;
 #[cfg(test)]
 mod tests;
 #[cfg(test)]
@@ -55,9 +59,16 @@ pub use occurrences::{
     literal_count_overlapping, literal_count_overlapping_in, literal_find_overlapping_from_in,
 };
 use pieces::{Pieces, are_ends};
+pub use sides::{
+    literal_count_words_by_sides_in, literal_find_all_words_by_sides_in,
+    literal_find_word_by_sides_in,
+};
 use so_far::{find_so_far, tell_so_far};
+pub use states::{
+    LITERAL_MATCH_STATE, LITERAL_START_STATE, literal_next_state_in, literal_patterns_at_in,
+    literal_walk_in,
+};
 use std::alloc::Global;
-use words::{count_words, words_in, write_words};
 
 /// The version of this library as a number, 1,000,000 * major + 1,000 * minor + patch: 1000 for 0.1.0.
 pub const LITERAL_VERSION_NUMBER: u32 = 1000;
@@ -645,23 +656,7 @@ pub extern "C" fn literal_find_word_in(
         → MayBeFound (between start end) (slice_index prepared.now 3) (match_of found.new) }
     ensures as_before { (result ≡ LITERAL_OK) ⊎ (found.new ≡ found.old) }
 {
-    let Some(kind) = match_kind(kind) else {
-        return LITERAL_BAD_ARGUMENTS;
-    };
-    if start > end || end > haystack.len() {
-        return LITERAL_BAD_ARGUMENTS;
-    }
-    let Ok(words) = words_in(kind, prepared) else {
-        return LITERAL_DAMAGED;
-    };
-    match words.find_in(haystack, Span { start, end }) {
-        Err(Damaged) => LITERAL_DAMAGED,
-        Ok(None) => LITERAL_NONE,
-        Ok(Some(it)) => {
-            *found = match_for_c(&it);
-            LITERAL_OK
-        }
-    }
+    literal_find_word_by_sides_in(kind, prepared, haystack, &[], start, end, found)
 }
 
 /// Finds all whole words in the bytes of the haystack from `start` up to `end`, which is not included, that do not
@@ -689,22 +684,7 @@ pub extern "C" fn literal_find_all_words_in(
     ensures as_before { (result ≡ LITERAL_OK) ⊎ (page.new ≡ page.old) }
     ensures refused { result ≡ LITERAL_BAD_ARGUMENTS → found.new ≡ found.old }
 {
-    let Some(kind) = match_kind(kind) else {
-        return LITERAL_BAD_ARGUMENTS;
-    };
-    if start > end || end > haystack.len() || found.is_empty() {
-        return LITERAL_BAD_ARGUMENTS;
-    }
-    let Ok(words) = words_in(kind, prepared) else {
-        return LITERAL_DAMAGED;
-    };
-    match write_words(&words, haystack, Span { start, end }, found) {
-        Err(Damaged) => LITERAL_DAMAGED,
-        Ok(written) => {
-            *page = written;
-            LITERAL_OK
-        }
-    }
+    literal_find_all_words_by_sides_in(kind, prepared, haystack, &[], start, end, found, page)
 }
 
 /// Counts the whole words that [`literal_find_all_words_in`] finds, page after page: at most as many as there are bytes
@@ -725,22 +705,7 @@ pub extern "C" fn literal_count_words_in(
     ensures most { result ≡ LITERAL_OK → count.new ≤ end - start }
     ensures as_before { (result ≡ LITERAL_OK) ⊎ (count.new ≡ count.old) }
 {
-    let Some(kind) = match_kind(kind) else {
-        return LITERAL_BAD_ARGUMENTS;
-    };
-    if start > end || end > haystack.len() {
-        return LITERAL_BAD_ARGUMENTS;
-    }
-    let Ok(words) = words_in(kind, prepared) else {
-        return LITERAL_DAMAGED;
-    };
-    match count_words(&words, haystack, Span { start, end }) {
-        Err(Damaged) => LITERAL_DAMAGED,
-        Ok(matches) => {
-            *count = matches;
-            LITERAL_OK
-        }
-    }
+    literal_count_words_by_sides_in(kind, prepared, haystack, &[], start, end, count)
 }
 
 /// Like [`literal_find_overlapping`], by a search that [`literal_prepare_overlapping`] wrote. [`LITERAL_BAD_ARGUMENTS`]

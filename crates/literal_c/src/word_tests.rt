@@ -1,8 +1,9 @@
 //! Tests of the exports that search for whole words.
 use crate::{
     LITERAL_BAD_ARGUMENTS, LITERAL_DAMAGED, LITERAL_LEFTMOST_FIRST, LITERAL_LEFTMOST_LONGEST,
-    LITERAL_NONE, LITERAL_OK, LiteralMatch, LiteralPage, literal_count_words_in,
-    literal_find_all_words_in, literal_find_word_in, literal_prepare,
+    LITERAL_NONE, LITERAL_OK, LiteralMatch, LiteralPage, literal_count_words_by_sides_in,
+    literal_count_words_in, literal_find_all_words_by_sides_in, literal_find_all_words_in,
+    literal_find_word_by_sides_in, literal_find_word_in, literal_prepare,
 };
 use std::alloc::Global;
 use std::process::Abort;
@@ -96,5 +97,57 @@ fn counts_words(rt: HostRuntime) -> Result<(), Fail> {
     assert!(rt; status == LITERAL_BAD_ARGUMENTS && count == 7);
     assert!(rt; literal_count_words_in(FIRST, &array, TEXT, 0, 40, &mut count) == LITERAL_OK);
     assert!(rt; count == 2);
+    Ok(())
+}
+
+/// In it the first `york` has another letter right before it, and the second one an arrow.
+const ACCENTED: &[u8] = b"\xC3\xA9york \xE2\x86\x92york";
+
+const SIDES: &[u8] = b"aayork    york";
+
+#[test]
+fn finds_a_word_by_sides(rt: HostRuntime) -> Result<(), Fail> {
+    let array = prepared(rt.alloc())?;
+    let (mut found, find) = (BEFORE, literal_find_word_by_sides_in);
+    assert!(rt; find(FIRST, &array, ACCENTED, SIDES, 0, 14, &mut found) == LITERAL_OK);
+    assert_match(&rt, &found, (0, 10, 14));
+    assert!(rt; find(FIRST, &array, ACCENTED, &[], 0, 14, &mut found) == LITERAL_OK);
+    assert_match(&rt, &found, (0, 2, 6));
+    assert!(rt; find(FIRST, &array, ACCENTED, SIDES, 0, 9, &mut found) == LITERAL_NONE);
+    let status = find(FIRST, &array, ACCENTED, &SIDES[1..], 0, 14, &mut found);
+    assert!(rt; status == LITERAL_BAD_ARGUMENTS);
+    assert_match(&rt, &found, (0, 2, 6));
+    Ok(())
+}
+
+#[test]
+fn lists_and_counts_words_by_sides(rt: HostRuntime) -> Result<(), Fail> {
+    let array = prepared(rt.alloc())?;
+    let (mut found, mut count) = ([BEFORE], 7);
+    let mut page = LiteralPage {
+        written: 0,
+        next: 0,
+        is_last: 7,
+    };
+    let list = literal_find_all_words_by_sides_in;
+    let status = list(FIRST, &array, ACCENTED, SIDES, 0, 14, &mut found, &mut page);
+    assert!(rt; status == LITERAL_OK && page.written == 1 && page.next == 14 && page.is_last == 1);
+    assert_match(&rt, &found[0], (0, 10, 14));
+    let status = list(
+        FIRST,
+        &array,
+        ACCENTED,
+        &SIDES[1..],
+        0,
+        14,
+        &mut found,
+        &mut page,
+    );
+    assert!(rt; status == LITERAL_BAD_ARGUMENTS && page.next == 14);
+    let count_words = literal_count_words_by_sides_in;
+    let status = count_words(FIRST, &array, ACCENTED, SIDES, 0, 14, &mut count);
+    assert!(rt; status == LITERAL_OK && count == 1);
+    let status = count_words(FIRST, &array, ACCENTED, &SIDES[1..], 0, 14, &mut count);
+    assert!(rt; status == LITERAL_BAD_ARGUMENTS && count == 1);
     Ok(())
 }

@@ -1,12 +1,12 @@
 //! Whole words by an array that C lends.
-ghost use Rattle.std.specs.Prelude.{◌≡◌, ◌+◌, ◌-◌, ◌≤◌, IfOk, MatchResult, slice_index};
+ghost use Rattle.std.specs.Prelude.{◌≡◌, ◌+◌, ◌-◌, ◌≤◌, IfOk, MatchResult, length, slice_index};
 ghost use Rattle.std.specs.Result.{IsOkAnd};
 ghost use Rattle.literal_base.specs.Occurs.{IsValidSpan};
 ghost use Rattle.literal_search.specs.Prepared.{HasAllParts};
 ghost use Rattle.literal_search.specs.PreparedWords.{ForWholeWords};
 ghost use Rattle.literal_c.specs.Answers.{MayBePage};
 ghost use Rattle.literal_c.specs.Inside.Given.{AreWordsBy};
-ghost use Rattle.literal_c.specs.Words.{IsWordCount, IsWordPage};
+ghost use Rattle.literal_c.specs.Words.{IsWordCountBy, IsWordPageBy};
 
 use crate::answers::match_for_c;
 use crate::{LiteralMatch, LiteralPage};
@@ -21,20 +21,23 @@ pub fn words_in(kind: MatchKind, prepared: &[u32]) -> Result<PreparedWords<'_>, 
     Ok(PreparedWords::new(prepared, kind, WholeWords::ascii_word_bytes()))
 }
 
-/// Writes the whole words of a span, as many as there is room for, and returns how many these are and what is left.
+/// Writes the whole words of a span, by the sides of the haystack, as many as there is room for, and returns how many
+/// these are and what is left.
 pub fn write_words(
     words: &PreparedWords<'_>,
     haystack: &[u8],
+    sides: &[u8],
     span: Span,
     found: &mut [LiteralMatch],
 ) -> Result<LiteralPage, Damaged>
-    requires { IsValidSpan haystack.now span }
+    requires valid { IsValidSpan haystack.now span }
+    requires sides { length sides.now ≡ length haystack.now }
     ensures page { ForWholeWords words.now (λ w. IsOkAnd result
-        (IsWordPage w haystack.now span found.old found.new)) }
+        (IsWordPageBy w haystack.now sides.now span found.old found.new)) }
     ensures inside { IfOk result (MayBePage span (slice_index words.now.numbers 3) found.new) }
     ensures goes_on { IfOk result (λ page. span.start + page.written ≤ page.next) }
 {
-    let mut matches = words.find_iter_in(haystack, span);
+    let mut matches = words.find_iter_in_by_sides(haystack, sides, span);
     let mut page = LiteralPage {
         written: 0,
         next: span.start,
@@ -56,13 +59,19 @@ pub fn write_words(
     Ok(page)
 }
 
-/// The number of whole words in a span.
-pub fn count_words(words: &PreparedWords<'_>, haystack: &[u8], span: Span) -> Result<usize, Damaged>
-    requires { IsValidSpan haystack.now span }
-    ensures count { ForWholeWords words.now (λ w. IsOkAnd result (IsWordCount w haystack.now span)) }
+/// The number of whole words in a span, by the sides of the haystack.
+pub fn count_words(
+    words: &PreparedWords<'_>,
+    haystack: &[u8],
+    sides: &[u8],
+    span: Span,
+) -> Result<usize, Damaged>
+    requires valid { IsValidSpan haystack.now span }
+    requires sides { length sides.now ≡ length haystack.now }
+    ensures count { ForWholeWords words.now (λ w. IsOkAnd result (IsWordCountBy w haystack.now sides.now span)) }
     ensures most { IfOk result (λ count. count ≤ span.end - span.start) }
 {
-    let mut matches = words.find_iter_in(haystack, span);
+    let mut matches = words.find_iter_in_by_sides(haystack, sides, span);
     let mut count = 0;
     while let Some(_) = matches.next_match()? {
         count += 1;

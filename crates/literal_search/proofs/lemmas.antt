@@ -26,12 +26,17 @@ pub mod NextEnd
 pub mod NoPattern
 pub mod Numbers
 pub mod Overlapping
+pub mod OverlappingStreamed
+pub mod OverlappingStreams
 pub mod Packed
 pub mod Prepared
+pub mod PreparedStates
 pub mod Recognised
 pub mod Relabelled
 pub mod Replaced
 pub mod ReplacedWords
+pub mod Rewritten
+pub mod RewrittenBy
 pub mod Reversed
 pub mod Rows
 pub mod Scan
@@ -44,4 +49,5 @@ pub mod Texts
 pub mod Unmarked
 pub mod Walk
 pub mod WholeWords
+pub mod WordText
 pub mod Written

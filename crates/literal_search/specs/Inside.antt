@@ -14,6 +14,7 @@ pub mod Lists
 pub mod Near
 pub mod NextEnd
 pub mod Overlapping
+pub mod OverlappingStream
 pub mod Packed
 pub mod Prepared
 pub mod Rewriting

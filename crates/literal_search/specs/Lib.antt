@@ -1,4 +1,3 @@
-pub mod SearchValue
 pub mod At
 pub mod Automaton
 pub mod Earliest
@@ -8,14 +7,19 @@ pub mod MatchesValue
 pub mod Memory
 pub mod Overlapping
 pub mod OverlappingMatchesValue
+pub mod OverlappingStream
 pub mod PatternsIter
 pub mod Prepared
 pub mod PreparedOverlapping
+pub mod PreparedStates
 pub mod PreparedWords
 pub mod Replaced
+pub mod ReplacedStream
 pub mod SearchBuilderValue
+pub mod SearchValue
 pub mod States
 pub mod Stream
 pub mod Table
 pub mod WholeWords
+pub mod WordText
 pub mod Words

@@ -46,3 +46,8 @@ word_matches_by m words = record {
   from = m.from;
   known = m.known;
 }
+
+-- a `PreparedWordMatchesBySides` as contracts see it: the iteration, and the sides of the haystack
+pub record PreparedWordMatchesBySidesValue : Type 0 where
+  pub matches : PreparedWordMatchesValue
+  pub sides : List ℕ

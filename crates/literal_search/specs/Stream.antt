@@ -81,9 +81,14 @@ known None = []
 known (Some bytes) = bytes
 
 -- a piece of the unread bytes is read, or nothing once reading has failed
-pub record ReadsPiece (old : StreamValue) (piece : List ℕ) (new : StreamValue) : Type 0 where
-  pub consumed : Consumes old.unread new.unread piece
-  pub failed : IfSome old.failure (λ kind. (piece ≡ []) × (new.failure ≡ Some kind))
+pub record ReadsOn (unread : Option (List ℕ)) (failure : Option ErrorKind) (piece : List ℕ)
+    (left : Option (List ℕ)) (failed_now : Option ErrorKind) : Type 0 where
+  pub consumed : Consumes unread left piece
+  pub failed : IfSome failure (λ kind. (piece ≡ []) × (failed_now ≡ Some kind))
+
+-- `ReadsOn` from one state of a stream to another
+abbrev pub ReadsPiece : StreamValue → List ℕ → StreamValue → Type 0
+ReadsPiece old piece new = ReadsOn old.unread old.failure piece new.unread new.failure
 
 -- the answer is the leftmost match in the bytes that were read and those known to follow. The search continues at its
 -- end

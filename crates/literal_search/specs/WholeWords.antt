@@ -36,40 +36,62 @@ pub record IsAlone (word_bytes : List Bool) (haystack : List ℕ) (start end : �
   pub before : is_word_before word_bytes haystack start ≡ false
   pub after : is_word_at word_bytes haystack end ≡ false
 
--- a pattern occurs at an offset, whole in a span, and as a whole word. Bytes next to the span count too
-pub record OccursAlone (patterns : List (List ℕ)) (ignore_case : Bool) (word_bytes : List Bool) (haystack : List ℕ)
-    (span : Span) (i at : ℕ) : Type 0 where
+-- `OccursAlone` by the sides of the haystack: as many bytes, which count in its place next to an occurrence
+pub record OccursAloneBy (patterns : List (List ℕ)) (ignore_case : Bool) (word_bytes : List Bool)
+    (haystack sides : List ℕ) (span : Span) (i at : ℕ) : Type 0 where
   pub occurs : Occurs patterns ignore_case haystack span i at
-  pub alone : IsAlone word_bytes haystack at (at + length (pattern_at patterns i))
+  pub alone : IsAlone word_bytes sides at (at + length (pattern_at patterns i))
+
+-- a pattern occurs at an offset, whole in a span, and as a whole word. Bytes next to the span count too
+abbrev pub OccursAlone : List (List ℕ) → Bool → List Bool → List ℕ → Span → ℕ → ℕ → Type 0
+OccursAlone patterns ignore_case word_bytes haystack =
+    OccursAloneBy patterns ignore_case word_bytes haystack haystack
+
+-- `IsLeftmostAlone` by the sides of the haystack
+pub record IsLeftmostAloneBy (query : Query) (ignore_case : Bool) (word_bytes : List Bool) (haystack sides : List ℕ)
+    (span : Span) (found : MatchValue) : Type 0 where
+  pub occurs : OccursAloneBy query.patterns ignore_case word_bytes haystack sides span found.pattern found.start
+  pub whole : found.end ≡ found.start + length (pattern_at query.patterns found.pattern)
+  pub earliest : (i at : ℕ) → at < found.start
+      → ¬ OccursAloneBy query.patterns ignore_case word_bytes haystack sides span i at
+  pub best : (i : ℕ) → IsBetter query.kind query.patterns i found.pattern
+      → ¬ OccursAloneBy query.patterns ignore_case word_bytes haystack sides span i found.start
 
 -- the match is a whole word in the span. No whole word begins before it, and none that the tie rule prefers begins at
 -- its start
-pub record IsLeftmostAlone (query : Query) (ignore_case : Bool) (word_bytes : List Bool) (haystack : List ℕ)
-    (span : Span) (found : MatchValue) : Type 0 where
-  pub occurs : OccursAlone query.patterns ignore_case word_bytes haystack span found.pattern found.start
-  pub whole : found.end ≡ found.start + length (pattern_at query.patterns found.pattern)
-  pub earliest : (i at : ℕ) → at < found.start
-      → ¬ OccursAlone query.patterns ignore_case word_bytes haystack span i at
-  pub best : (i : ℕ) → IsBetter query.kind query.patterns i found.pattern
-      → ¬ OccursAlone query.patterns ignore_case word_bytes haystack span i found.start
+abbrev pub IsLeftmostAlone : Query → Bool → List Bool → List ℕ → Span → MatchValue → Type 0
+IsLeftmostAlone query ignore_case word_bytes haystack =
+    IsLeftmostAloneBy query ignore_case word_bytes haystack haystack
+
+-- `NothingAlone` by the sides of the haystack
+abbrev pub NothingAloneBy : WholeWordsValue → List ℕ → List ℕ → Span → Type 0
+NothingAloneBy words haystack sides span = (i at : ℕ)
+    → ¬ OccursAloneBy words.search.query.patterns words.search.ignore_case words.word_bytes haystack sides span i at
 
 -- no pattern occurs in the span as a whole word
 abbrev pub NothingAlone : WholeWordsValue → List ℕ → Span → Type 0
-NothingAlone words haystack span = (i at : ℕ)
-    → ¬ OccursAlone words.search.query.patterns words.search.ignore_case words.word_bytes haystack span i at
+NothingAlone words haystack = NothingAloneBy words haystack haystack
+
+-- `IsFirstAlone` by the sides of the haystack
+abbrev pub IsFirstAloneBy : WholeWordsValue → List ℕ → List ℕ → Span → Option MatchValue → Type 0
+IsFirstAloneBy words haystack sides span answer = MatchOption answer (NothingAloneBy words haystack sides span)
+    (IsLeftmostAloneBy words.search.query words.search.ignore_case words.word_bytes haystack sides span)
 
 -- the answer is None exactly if there is no whole word in the span, and otherwise the leftmost one
 abbrev pub IsFirstAlone : WholeWordsValue → List ℕ → Span → Option MatchValue → Type 0
-IsFirstAlone words haystack span answer = MatchOption answer (NothingAlone words haystack span)
-    (IsLeftmostAlone words.search.query words.search.ignore_case words.word_bytes haystack span)
+IsFirstAlone words haystack = IsFirstAloneBy words haystack haystack
+
+-- `AreWholeWords` by the sides of the haystack
+abbrev pub AreWholeWordsBy : WholeWordsValue → List ℕ → List ℕ → Span → List MatchValue → Type 0
+AreWholeWordsBy words haystack sides span [] = NothingAloneBy words haystack sides span
+AreWholeWordsBy words haystack sides span (found ∷ more) =
+    IsLeftmostAloneBy words.search.query words.search.ignore_case words.word_bytes haystack sides span found
+    × AreWholeWordsBy words haystack sides (between found.end span.end) more
 
 -- all whole words of a span that do not overlap, from the left: the leftmost one, followed by those of the rest of the
 -- span after it
 abbrev pub AreWholeWords : WholeWordsValue → List ℕ → Span → List MatchValue → Type 0
-AreWholeWords words haystack span [] = NothingAlone words haystack span
-AreWholeWords words haystack span (found ∷ more) =
-    IsLeftmostAlone words.search.query words.search.ignore_case words.word_bytes haystack span found
-    × AreWholeWords words haystack (between found.end span.end) more
+AreWholeWords words haystack = AreWholeWordsBy words haystack haystack
 
 -- a `WholeWordMatches` as contracts see it: the words, the haystack, the span, the offset from which it continues, the
 -- offset from which it looks for the next pattern, and the offset up to which it has looked
@@ -81,11 +103,10 @@ pub record WholeWordMatchesValue : Type 0 where
   pub from : ℕ
   pub known : ℕ
 
--- the answer of `next`: the leftmost whole word of the rest of the span, which is not empty, or None if there is none.
--- It continues after that word
-pub record GivesWholeWord (old : WholeWordMatchesValue) (answer : Option MatchValue) (new : WholeWordMatchesValue)
-    : Type 0 where
-  pub leftmost : IsFirstAlone old.words old.haystack (between old.at old.span.end) answer
+-- `GivesWholeWord` by the sides of the haystack
+pub record GivesWholeWordBy (sides : List ℕ) (old : WholeWordMatchesValue) (answer : Option MatchValue)
+    (new : WholeWordMatchesValue) : Type 0 where
+  pub leftmost : IsFirstAloneBy old.words old.haystack sides (between old.at old.span.end) answer
   pub not_empty : IfSome answer (λ found. found.start < found.end)
   pub known : ℕ
   pub goes_on : new ≡ record old {
@@ -95,9 +116,29 @@ pub record GivesWholeWord (old : WholeWordMatchesValue) (answer : Option MatchVa
   }
   pub looks : LooksOn (longest_of old.words.search.query.patterns) old.span old.known new.known new.from
 
+-- the answer of `next`: the leftmost whole word of the rest of the span, which is not empty, or None if there is none.
+-- It continues after that word
+abbrev pub GivesWholeWord : WholeWordMatchesValue → Option MatchValue → WholeWordMatchesValue → Type 0
+GivesWholeWord old = GivesWholeWordBy old.haystack old
+
 -- an upper bound on the whole words to come: each has at least one byte of the rest
 abbrev pub most_words_to_come : WholeWordMatchesValue → Count
 most_words_to_come m = at_most (m.span.end - m.at)
+
+-- a `WordMatchesBySides` as contracts see it: the iteration, and the sides of the haystack
+pub record WordMatchesBySidesValue : Type 0 where
+  pub matches : WholeWordMatchesValue
+  pub sides : List ℕ
+
+-- the answer of the `next` of a `WordMatchesBySides`: that of `GivesWholeWordBy`, and the sides stay the same
+pub record GivesWordBySides (old : WordMatchesBySidesValue) (answer : Option MatchValue)
+    (new : WordMatchesBySidesValue) : Type 0 where
+  pub gives : GivesWholeWordBy old.sides old.matches answer new.matches
+  pub same : new.sides ≡ old.sides
+
+-- `most_words_to_come` of a `WordMatchesBySides`
+abbrev pub most_words_by_sides : WordMatchesBySidesValue → Count
+most_words_by_sides m = most_words_to_come m.matches
 
 -- the most bytes that are looked up at an offset at which a pattern begins, given the length of the longest one
 abbrev pub most_at_start : ℕ → ℕ

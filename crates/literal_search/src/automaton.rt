@@ -1,7 +1,7 @@
 //! The automaton of a search for every occurrence, for a caller's own loops.
 ghost use Rattle.std.specs.Prelude.{◌≡◌, ◌⊎◌, ◌↔◌, ◌+◌, ◌-◌, ◌<◌, ◌≤◌, ◌^◌, ◌++◌, ◌∷◌, [], ℕ, List, IsTrue};
 ghost use Rattle.std.specs.Prelude.{length, slice_index, slice_range};
-ghost use Rattle.literal_base.specs.Occurs.{whole_of};
+ghost use Rattle.literal_base.specs.Occurs.{pattern_at, whole_of};
 ghost use Rattle.literal_search.specs.Automaton.{AreAtEnd, EndsText, IsStateAfter};
 ghost use Rattle.literal_search.specs.Inside.Overlapping.{AreParts, overlapping_of};
 ghost use Rattle.literal_search.specs.Inside.Walk.{classes_by, rows_by};
@@ -11,6 +11,8 @@ use crate::classes::CLASSES_LEN;
 use crate::overlapping::Parts;
 use crate::prepared_overlapping::LentTables;
 use crate::walk::{ENDS, Table};
+use literal_base::count::Tally;
+use literal_ids::PatternID;
 use std::marker::Model;
 
 /// The automaton of an [`Overlapping`](crate::Overlapping), which it borrows, for a caller's own loops. Contracts see
@@ -98,6 +100,25 @@ impl<'s> Automaton<'s> {
         State { number }
     }
 
+    /// The state after one more byte of the haystack, which counts as scanned.
+    #[inline(always)]
+    pub(crate) fn next_at(
+        &self,
+        state: State,
+        haystack: &[u8],
+        at: usize,
+        tally: &mut Tally,
+    ) -> State
+        requires inside { at < length haystack.now }
+        requires after { (text : List ℕ) × IsStateAfter self.now text state }
+        ensures state { (text : List ℕ) → IsStateAfter self.now text state
+            → IsStateAfter self.now (text ++ slice_index haystack.now at ∷ []) result }
+        ensures ticks { tally.new ≡ record tally.old { scanned = tally.old.scanned + 1 } }
+    {
+        let number = self.table().code_at(state.row(), haystack, at, tally);
+        State { number }
+    }
+
     /// Returns whether any pattern is a suffix of the text. The state itself says so, without a look-up.
     #[inline(always)]
     pub fn is_match(&self, state: State) -> bool
@@ -109,7 +130,7 @@ impl<'s> Automaton<'s> {
     }
 
     /// Returns the numbers of all patterns that are suffixes of the text, in ascending order.
-    pub fn matches(&self, state: State) -> &[u32]
+    pub fn matches(&self, state: State) -> &'s [u32]
         ensures { (text : List ℕ) → IsStateAfter self.now text state
             → AreAtEnd self.now.patterns self.now.ignore_case text (whole_of text) result.now }
     {
@@ -123,8 +144,18 @@ impl<'s> Automaton<'s> {
         }
     }
 
+    /// The length of the pattern with this number.
+    pub(crate) fn pattern_len(&self, pattern: usize) -> usize
+        requires { pattern < length self.now.patterns }
+        ensures len { result ≡ length (pattern_at self.now.patterns pattern) }
+        ensures few { pattern < PatternID.LIMIT }
+    {
+        let _table = self.table(); // (as in `is_match`)
+        self.lent.header.lengths[pattern] as usize
+    }
+
     /// The numbers of all patterns that are suffixes of a pattern.
-    fn list_of(&self, pattern: usize) -> &[u32]
+    fn list_of(&self, pattern: usize) -> &'s [u32]
         ensures { pattern < length self.now.patterns
             → result.now ≡ slice_range self.now.ends (slice_index self.now.starts pattern)
             (slice_index self.now.starts (pattern + 1)) }
@@ -135,7 +166,8 @@ impl<'s> Automaton<'s> {
             return &[];
         }
         let (start, end) = (starts[pattern] as usize, starts[pattern + 1] as usize);
-        &self.lent.ends[start..end]
+        let ends = self.lent.ends;
+        &ends[start..end]
     }
 
     /// The table that a step reads.
@@ -152,6 +184,20 @@ impl<'s> Automaton<'s> {
 }
 
 impl State {
+    /// The state with a number, which [`State::as_u32`] returns.
+    pub fn new(number: u32) -> State
+        ensures { result ≡ number }
+    {
+        State { number }
+    }
+
+    /// Its number, for callers who keep states as numbers.
+    pub fn as_u32(self) -> u32
+        ensures { result ≡ self }
+    {
+        self.number
+    }
+
     /// The index at which the row of the state begins.
     #[inline(always)]
     fn row(self) -> usize

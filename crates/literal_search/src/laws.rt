@@ -18,6 +18,7 @@ ghost use Rattle.literal_search.specs.Automaton.{AreAtEnd, OccursAtEnd};
 ghost use Rattle.literal_search.specs.MatchesValue.{GivesCounted, GivesMatch, MatchesValue};
 ghost use Rattle.literal_search.specs.Overlapping.{IsOverlapping, OverlappingValue};
 ghost use Rattle.literal_search.specs.OverlappingMatchesValue.{GivesOverlapping, OverlappingMatchesValue};
+ghost use Rattle.literal_search.specs.OverlappingStream.{BeginsStream, GivesInStream, OverlappingStreamValue};
 ghost use Rattle.literal_search.specs.Prepared.{IsPrepared, IsWhole, RefusesToPrepare, TakesPlaces, check_of};
 ghost use Rattle.literal_search.specs.Prepared.{prepared_len};
 ghost use Rattle.literal_search.specs.PreparedOverlapping.{IsPreparedOverlapping, IsWholeOverlapping, overlapping_len};
@@ -90,6 +91,24 @@ pub fn streams_are_greedy()
         → GivesStreamed last (Some (Err error)) ended → (i offset : ℕ)
         → Occurs search.query.patterns search.ignore_case bytes (rest_from bytes last.offset) i offset
         → ended.offset - (longest_of search.query.patterns - 1) ≤ offset }
+{}
+
+/// If the bytes of a reader are known, an iteration over every occurrence in a stream gives each of them once before
+/// its first `None`, in the order of ends and, at one end, of pattern numbers (`whole`). Then it is past all bytes
+/// (`read`). Before an error it gives each occurrence in the bytes that were read (`failed`).
+pub fn streams_give_each_occurrence_once()
+    ensures whole { (search : OverlappingValue) (bytes : List ℕ) (first last ended : OverlappingStreamValue)
+        (all : List MatchValue) → BeginsStream search (Some bytes) first
+        → Yields GivesInStream first (map Ok all) last → GivesInStream last None ended
+        → IsOverlapping search.patterns search.ignore_case bytes (whole_of bytes) all }
+    ensures read { (search : OverlappingValue) (bytes : List ℕ) (first last ended : OverlappingStreamValue)
+        (all : List MatchValue) → BeginsStream search (Some bytes) first
+        → Yields GivesInStream first (map Ok all) last → GivesInStream last None ended
+        → ended.offset ≡ length bytes }
+    ensures failed { (search : OverlappingValue) (bytes : List ℕ) (first last ended : OverlappingStreamValue)
+        (all : List MatchValue) (error : Error) → BeginsStream search (Some bytes) first
+        → Yields GivesInStream first (map Ok all) last → GivesInStream last (Some (Err error)) ended
+        → IsOverlapping search.patterns search.ignore_case bytes (between 0 ended.offset) all }
 {}
 
 /// An iteration over every occurrence in a span gives each occurrence once before its first `None`, in the order of

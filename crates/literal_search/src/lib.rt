@@ -19,12 +19,14 @@ mod leftmost;
 mod near;
 mod numbers;
 mod overlapping;
+mod overlapping_stream;
 mod patterns;
 mod position;
 mod prepared;
 mod prepared_overlapping;
 mod prepared_search;
 mod prepared_so_far;
+mod prepared_states;
 mod prepared_words;
 mod reading;
 mod replace;
@@ -38,6 +40,7 @@ mod walk;
 mod whole_words;
 mod window;
 mod word_search;
+mod word_text;
 
 pub use automaton::{Automaton, State};
 pub use builder::SearchBuilder;
@@ -48,11 +51,13 @@ pub use literal_base::packed::MatchKind;
 pub use literal_base::{Match, Span};
 pub use literal_ids::PatternID;
 pub use overlapping::{Overlapping, OverlappingMatches};
+pub use overlapping_stream::OverlappingStreamMatches;
 pub use patterns::Patterns;
 pub use prepared::{ArrayTooShort, Damaged};
 pub use prepared_overlapping::{PreparedOverlapping, PreparedOverlappingMatches};
 pub use prepared_search::{Prepared, PreparedMatches};
-pub use prepared_words::{PreparedWordMatches, PreparedWords};
+pub use prepared_states::Walked;
+pub use prepared_words::{PreparedWordMatches, PreparedWordMatchesBySides, PreparedWords};
 pub use replace::ReplaceError;
 pub use replace_stream::ReplaceStreamError;
 pub use search::{Matches, Search, Starts};
@@ -61,6 +66,7 @@ use std::error::Error;
 use std::fmt;
 pub use stream::{SoFar, StreamMatches};
 pub use whole_words::{WholeWordMatches, WholeWords};
+pub use word_text::{WordMatchesBySides, WordText};
 
 /// Why no search is built for some patterns.
 #[derive(Clone, Copy, Debug, PartialEq, Eq, Drop)]

@@ -1,5 +1,5 @@
 //! The search for every occurrence by an array that its caller lends. The array is not trusted.
-ghost use Rattle.std.specs.Prelude.{◌≡◌, ◌+◌, ◌-◌, ◌*◌, ◌<◌, ◌≤◌, ◌↔◌, length, slice_index, List, ℕ};
+ghost use Rattle.std.specs.Prelude.{◌≡◌, ◌+◌, ◌-◌, ◌*◌, ◌<◌, ◌≤◌, ◌↔◌, length, slice_index, slice_range, List, ℕ};
 ghost use Rattle.std.specs.Prelude.{IfOk, IfSome, IsTrue, MatchOption, MatchResult, None, ⊤};
 ghost use Rattle.std.specs.Option.{option_map};
 ghost use Rattle.std.specs.Result.{IsOkAnd};
@@ -69,6 +69,15 @@ impl<'p> PreparedOverlapping<'p> {
             return Err(Damaged);
         };
         Ok(PreparedOverlapping { lent })
+    }
+
+    /// The parts of the array.
+    #[inline(always)]
+    pub(crate) fn lent(&self) -> &LentTables<'p>
+        ensures lent { AreLent result.now }
+        ensures numbers { result.now.header.numbers.now ≡ self.now }
+    {
+        &self.lent
     }
 
     /// Returns whether the checksum over all numbers of the search is right.
@@ -217,6 +226,22 @@ impl<'p> LentTables<'p> {
         ensures rows { rows_by result ≡ rows_of self.now.header.rows.now }
     {
         self.header.table()
+    }
+
+    /// The numbers of all patterns that are suffixes of a pattern.
+    pub fn list_of(&self, pattern: usize) -> Result<&'p [u32], Damaged>
+        ensures { pattern + 1 < length self.now.starts.now
+            → slice_index self.now.starts.now pattern ≤ slice_index self.now.starts.now (pattern + 1)
+            → slice_index self.now.starts.now (pattern + 1) ≤ length self.now.ends.now
+            → IsOkAnd result (λ list. list.now ≡ slice_range self.now.ends.now
+            (slice_index self.now.starts.now pattern) (slice_index self.now.starts.now (pattern + 1))) }
+    {
+        let start = *self.starts.get(pattern).ok_or(Damaged)? as usize;
+        let end = *self.starts.get(pattern.saturating_add(1)).ok_or(Damaged)? as usize;
+        if start > end || end > self.ends.len() {
+            return Err(Damaged);
+        }
+        Ok(&self.ends[start..end])
     }
 
     /// The earliest end of an occurrence in a span.

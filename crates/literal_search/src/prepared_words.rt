@@ -1,13 +1,13 @@
 //! The search for whole words by an array that its caller lends, without memory of its own. The array is not trusted:
 //! if a number leads out of it, the search answers [`Damaged`].
-ghost use Rattle.std.specs.Prelude.{◌≡◌, ◌<◌, ◌≤◌, IfOk, IfSome, MatchResult, None, slice_index};
+ghost use Rattle.std.specs.Prelude.{◌≡◌, ◌<◌, ◌≤◌, IfOk, IfSome, MatchResult, None, length, slice_index};
 ghost use Rattle.std.specs.Result.{IsOkAnd};
 ghost use Rattle.literal_base.specs.Occurs.{IsValidSpan, between};
 ghost use Rattle.literal_search.specs.MatchesValue.{offset_after_start, offset_at_end};
 ghost use Rattle.literal_search.specs.Prepared.{LiesIn, longest_in};
 ghost use Rattle.literal_search.specs.PreparedWords.{ForWholeWords, word_matches_by};
-ghost use Rattle.literal_search.specs.WholeWords.{GivesWholeWord, IsFirstAlone, ScansFirstWordBy, ScansWordsAtMost};
-ghost use Rattle.literal_search.specs.WholeWords.{ScansWordsBy};
+ghost use Rattle.literal_search.specs.WholeWords.{GivesWholeWord, GivesWholeWordBy, IsFirstAlone, IsFirstAloneBy};
+ghost use Rattle.literal_search.specs.WholeWords.{ScansFirstWordBy, ScansWordsAtMost, ScansWordsBy};
 
 use crate::backward::{Continuation, offset_after};
 use crate::prepared::Damaged;
@@ -93,8 +93,7 @@ impl<'p> PreparedWords<'p> {
         ensures most { ScansWordsAtMost (longest_in self.now.numbers) span span.start span.end span.start span.end
             tally.old tally.new }
     {
-        let words = Words::new(self.kind, *self.prepared.backward(), self.word_bytes);
-        words.find_in(haystack, span, tally)
+        self.find_in_by_sides_counted(haystack, haystack, span, tally)
     }
 
     /// Returns an iterator over all whole words in a span of the haystack, as
@@ -115,9 +114,81 @@ impl<'p> PreparedWords<'p> {
         } }
     {
         PreparedWordMatches {
+            matches: self.find_iter_in_by_sides(haystack, haystack, span),
+        }
+    }
+
+    /// Like [`PreparedWords::find_in`], except that next to an occurrence it looks up the sides of the haystack. These
+    /// are as many bytes as the haystack has, as those of [`WordText::sides`](crate::WordText::sides).
+    pub fn find_in_by_sides(
+        &self,
+        haystack: &[u8],
+        sides: &[u8],
+        span: Span,
+    ) -> Result<Option<Match>, Damaged>
+        requires valid { IsValidSpan haystack.now span }
+        requires sides { length sides.now ≡ length haystack.now }
+        ensures prepared { ForWholeWords self.now
+            (λ words. IsOkAnd result (IsFirstAloneBy words haystack.now sides.now span)) }
+        ensures inside { IfOk result (λ answer. IfSome answer (LiesIn span)) }
+        ensures pattern { IfOk result (λ answer. IfSome answer
+            (λ found. found.pattern < slice_index self.now.numbers 3)) }
+    {
+        self.find_in_by_sides_counted(haystack, sides, span, &mut Tally::new())
+    }
+
+    /// The same, and counts in the tally as [`PreparedWords::find_in_counted`] does. A byte of the sides counts as a
+    /// byte of the haystack.
+    pub fn find_in_by_sides_counted(
+        &self,
+        haystack: &[u8],
+        sides: &[u8],
+        span: Span,
+        tally: &mut Tally,
+    ) -> Result<Option<Match>, Damaged>
+        requires valid { IsValidSpan haystack.now span }
+        requires sides { length sides.now ≡ length haystack.now }
+        ensures prepared { ForWholeWords self.now
+            (λ words. IsOkAnd result (IsFirstAloneBy words haystack.now sides.now span)) }
+        ensures inside { IfOk result (λ answer. IfSome answer (LiesIn span)) }
+        ensures pattern { IfOk result (λ answer. IfSome answer
+            (λ found. found.pattern < slice_index self.now.numbers 3)) }
+        ensures bounded { IfOk result (λ answer. ScansFirstWordBy (longest_in self.now.numbers) span answer
+            tally.old tally.new) }
+        ensures most { ScansWordsAtMost (longest_in self.now.numbers) span span.start span.end span.start span.end
+            tally.old tally.new }
+    {
+        let words = Words::new(self.kind, *self.prepared.backward(), self.word_bytes);
+        words.find_in(haystack, sides, span, tally)
+    }
+
+    /// Returns an iterator over all whole words in a span of the haystack, like [`PreparedWords::find_iter_in`], by the
+    /// sides of the haystack, as in [`PreparedWords::find_in_by_sides`].
+    pub fn find_iter_in_by_sides<'s, 'h>(
+        &'s self,
+        haystack: &'h [u8],
+        sides: &'h [u8],
+        span: Span,
+    ) -> PreparedWordMatchesBySides<'s, 'p, 'h>
+        requires valid { IsValidSpan haystack.now span }
+        requires sides { length sides.now ≡ length haystack.now }
+        ensures { result ≡ record {
+          matches = record {
+            words = self.now;
+            haystack = haystack.now;
+            span = span;
+            at = span.start;
+            from = span.start;
+            known = span.start;
+          };
+          sides = sides.now;
+        } }
+    {
+        PreparedWordMatchesBySides {
             prepared: self,
             words: Words::new(self.kind, *self.prepared.backward(), self.word_bytes),
             haystack,
+            sides,
             span,
             at: span.start,
             starts: KnownStarts::new(span.start),
@@ -130,32 +201,18 @@ impl<'p> PreparedWords<'p> {
 /// After [`Damaged`] or its first `None`, the first two of these offsets are the end of the span, and it has ended.
 #[derive(Drop)]
 pub struct PreparedWordMatches<'s, 'p, 'h> {
-    prepared: &'s PreparedWords<'p>,
-    words: Words<'p>,
-    haystack: &'h [u8],
-    span: Span,
-    at: usize,
-    starts: KnownStarts,
+    matches: PreparedWordMatchesBySides<'s, 'p, 'h>,
 }
 
 impl<'s, 'p, 'h> Model for PreparedWordMatches<'s, 'p, 'h> {
-    ghost use Rattle.std.specs.Prelude.{◌≤◌};
+    ghost use Rattle.std.specs.Prelude.{◌≡◌};
     ghost use Rattle.literal_search.specs.PreparedWords.{PreparedWordMatchesValue};
-    ghost use Rattle.literal_search.specs.Inside.WholeWords.{AreKnownStarts, AreWordsIn};
 
     ghost Value = { PreparedWordMatchesValue };
 
-    ghost view = { λ m. record {
-      words = m.prepared.now;
-      haystack = m.haystack.now;
-      span = m.span;
-      at = m.at;
-      from = m.starts.at;
-      known = m.starts.marks.known;
-    } };
+    ghost view = { λ m. m.matches.matches };
 
-    ghost invariant = { λ m. AreWordsIn m.prepared.now m.words
-        × AreKnownStarts m.words m.haystack.now m.span m.starts × (m.starts.at ≤ m.at) × (m.at ≤ m.span.end) };
+    ghost invariant = { λ m. m.matches.sides ≡ m.matches.matches.haystack };
 }
 
 impl<'s, 'p, 'h> PreparedWordMatches<'s, 'p, 'h> {
@@ -200,11 +257,110 @@ impl<'s, 'p, 'h> PreparedWordMatches<'s, 'p, 'h> {
         ensures most { ScansWordsAtMost (longest_in self.old.words.numbers) self.old.span self.old.from self.new.from
             self.old.known self.new.known tally.old tally.new }
     {
+        self.matches.next_counted(tally)
+    }
+}
+
+/// The iterator of [`PreparedWords::find_iter_in_by_sides`]. Contracts see what they see of a [`PreparedWordMatches`],
+/// and the sides of the haystack.
+#[derive(Drop)]
+pub struct PreparedWordMatchesBySides<'s, 'p, 'h> {
+    prepared: &'s PreparedWords<'p>,
+    words: Words<'p>,
+    haystack: &'h [u8],
+    sides: &'h [u8],
+    span: Span,
+    at: usize,
+    starts: KnownStarts,
+}
+
+impl<'s, 'p, 'h> Model for PreparedWordMatchesBySides<'s, 'p, 'h> {
+    ghost use Rattle.std.specs.Prelude.{◌≡◌, ◌≤◌, length};
+    ghost use Rattle.literal_search.specs.PreparedWords.{PreparedWordMatchesBySidesValue};
+    ghost use Rattle.literal_search.specs.Inside.WholeWords.{AreKnownStarts, AreWordsIn};
+
+    ghost Value = { PreparedWordMatchesBySidesValue };
+
+    ghost view = { λ m. record {
+      matches = record {
+        words = m.prepared.now;
+        haystack = m.haystack.now;
+        span = m.span;
+        at = m.at;
+        from = m.starts.at;
+        known = m.starts.marks.known;
+      };
+      sides = m.sides.now;
+    } };
+
+    ghost invariant = { λ m. AreWordsIn m.prepared.now m.words
+        × AreKnownStarts m.words m.haystack.now m.span m.starts × (m.starts.at ≤ m.at) × (m.at ≤ m.span.end)
+        × (length m.sides.now ≡ length m.haystack.now) };
+}
+
+impl<'s, 'p, 'h> PreparedWordMatchesBySides<'s, 'p, 'h> {
+    /// Returns the next whole word, as [`PreparedWordMatches::next_match`] does.
+    pub fn next_match(&mut self) -> Result<Option<Match>, Damaged>
+        ensures prepared { ForWholeWords self.old.matches.words (λ words. IsOkAnd result (λ answer.
+            GivesWholeWordBy self.old.sides (word_matches_by self.old.matches words) answer
+            (word_matches_by self.new.matches words))) }
+        ensures inside { IfOk result (λ answer. IfSome answer
+            (LiesIn (between self.old.matches.at self.old.matches.span.end))) }
+        ensures pattern { IfOk result (λ answer. IfSome answer
+            (λ found. found.pattern < slice_index self.old.matches.words.numbers 3)) }
+        ensures goes_on { MatchResult result
+            (λ answer. (self.new.matches.at ≡ offset_at_end self.old.matches.span answer)
+            × (self.new.matches.from ≡ offset_after_start self.old.matches.span answer))
+            (λ _. (self.new.matches.at ≡ self.old.matches.span.end)
+            × (self.new.matches.from ≡ self.old.matches.span.end)) }
+        ensures ended { self.old.matches.from ≡ self.old.matches.span.end → IsOkAnd result (λ answer. answer ≡ None) }
+        ensures same { self.new.matches ≡ record self.old.matches {
+          at = self.new.matches.at;
+          from = self.new.matches.from;
+          known = self.new.matches.known;
+        } }
+        ensures sides { self.new.sides ≡ self.old.sides }
+    {
+        self.next_counted(&mut Tally::new())
+    }
+
+    /// Like `next_match`, and counts in the tally as [`PreparedWordMatches::next_counted`] does. A byte of the sides
+    /// counts as a byte of the haystack.
+    pub fn next_counted(&mut self, tally: &mut Tally) -> Result<Option<Match>, Damaged>
+        ensures prepared { ForWholeWords self.old.matches.words (λ words. IsOkAnd result (λ answer.
+            GivesWholeWordBy self.old.sides (word_matches_by self.old.matches words) answer
+            (word_matches_by self.new.matches words))) }
+        ensures inside { IfOk result (λ answer. IfSome answer
+            (LiesIn (between self.old.matches.at self.old.matches.span.end))) }
+        ensures pattern { IfOk result (λ answer. IfSome answer
+            (λ found. found.pattern < slice_index self.old.matches.words.numbers 3)) }
+        ensures goes_on { MatchResult result
+            (λ answer. (self.new.matches.at ≡ offset_at_end self.old.matches.span answer)
+            × (self.new.matches.from ≡ offset_after_start self.old.matches.span answer))
+            (λ _. (self.new.matches.at ≡ self.old.matches.span.end)
+            × (self.new.matches.from ≡ self.old.matches.span.end)) }
+        ensures ended { self.old.matches.from ≡ self.old.matches.span.end → IsOkAnd result (λ answer. answer ≡ None) }
+        ensures same { self.new.matches ≡ record self.old.matches {
+          at = self.new.matches.at;
+          from = self.new.matches.from;
+          known = self.new.matches.known;
+        } }
+        ensures sides { self.new.sides ≡ self.old.sides }
+        ensures further { (self.old.matches.known ≤ self.new.matches.known)
+            × (self.new.matches.known ≤ self.old.matches.span.end) }
+        ensures scans { IfOk result (λ _. ScansWordsBy (longest_in self.old.matches.words.numbers)
+            self.old.matches.span self.old.matches.from self.new.matches.from self.old.matches.known
+            self.new.matches.known tally.old tally.new) }
+        ensures most { ScansWordsAtMost (longest_in self.old.matches.words.numbers) self.old.matches.span
+            self.old.matches.from self.new.matches.from self.old.matches.known self.new.matches.known
+            tally.old tally.new }
+    {
         let (span, at) = (self.span, self.at);
         let haystack = self.haystack;
+        let sides = self.sides;
         match self
             .words
-            .next_word(haystack, span, at, &mut self.starts, tally)
+            .next_word(haystack, sides, span, at, &mut self.starts, tally)
         {
             Ok(answer) => {
                 self.at = offset_after(Continuation::AtEnd, span, &answer);

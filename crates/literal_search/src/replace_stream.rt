@@ -1,17 +1,18 @@
 //! Replaces each match in a text that is read in pieces, and writes the result as far as it is known.
-ghost use Rattle.std.specs.Prelude.{◌≡◌, ◌≤◌, [], Err, IfErr, IfOk, MatchResult, None, Ok, OnOk, length, map};
+ghost use Rattle.std.specs.Prelude.{◌≡◌, [], Err, IfErr, MatchResult, None, Ok, OnOk, map};
 ghost use Rattle.std.specs.Io.KnownBytes.{Appends};
+ghost use Rattle.literal_base.specs.Occurs.{pattern_at};
 ghost use Rattle.literal_search.specs.Replaced.{RewritesAll, StopsRewriting};
+ghost use Rattle.literal_search.specs.ReplacedStream.{RewritesAllBy, StopsRewritingBy};
 ghost use Rattle.literal_search.specs.SearchValue.{longest_of};
-ghost use Rattle.literal_search.specs.Stream.{MayBeKnown, told_to};
 ghost use Rattle.literal_search.specs.declared.replace_stream.ReplaceStreamError.TheVariants.{WriteFailed};
-ghost use Rattle.literal_search.specs.Inside.Rewriting.{IsOfFailure, known_part};
+ghost use Rattle.literal_search.specs.Inside.Rewriting.{IsOfFailure};
 ghost use Rattle.literal_search.specs.Inside.Stream.{IsSoundStream, IsWindow, held};
 
 use crate::reading::Reading;
 use crate::stream::next_known;
 use crate::window::Window;
-use crate::{Search, SoFar};
+use crate::{Match, Search, SoFar};
 use std::alloc::{AllocError, Global};
 use std::error::Error;
 use std::fmt;
@@ -26,7 +27,7 @@ pub enum ReplaceStreamError {
     OutOfMemory,
     /// The reader failed, or a `usize` cannot count more of the text ([`io::ErrorKind::FileTooLarge`]).
     ReadFailed(io::Error),
-    /// The writer failed, or accepted no more bytes.
+    /// The writer failed, or accepted no more bytes, or a function that replaces a match failed.
     WriteFailed(io::Error),
 }
 
@@ -97,82 +98,113 @@ impl Search {
         if replacements.len() != self.patterns_len() {
             return Err(ReplaceStreamError::NotOneForEach);
         }
+        self.replace_stream_with(
+            alloc,
+            reader,
+            writer,
+            |found: Match, _bytes: &[u8], writer: &mut W| put_replacement(
+                replacements,
+                found,
+                writer,
+            ),
+        )
+    }
+
+    /// Reads a text to its end, and writes it with each match replaced by what a function writes for it. The function
+    /// is called for one match after another, with the match, its bytes, and the writer, which holds all that was
+    /// written so far. It has to accept any such arguments. The matches are those of [`Search::find_iter`] in the whole
+    /// text, with offsets in the whole text, whatever pieces it comes in. Errors come as in
+    /// [`Search::replace_stream`], and an error of the function is [`ReplaceStreamError::WriteFailed`].
+    ///
+    /// ```rust
+    /// let search = Search::builder().build(alloc, [b"apple".as_slice(), b"maple"])?;
+    /// let (mut text, mut written) = (b"apple, maple".as_slice(), Vec::new(alloc));
+    /// search.replace_stream_with(
+    ///     alloc,
+    ///     &mut text,
+    ///     &mut written,
+    ///     |_, bytes, writer| {
+    ///         writer.write_all(b"<")?;
+    ///         writer.write_all(bytes)?;
+    ///         writer.write_all(b">")
+    ///     },
+    /// )?;
+    /// assert!(rt; written.as_slice() == b"<apple>, <maple>".as_slice());
+    /// ```
+    pub fn replace_stream_with<R: Read, W: Write, F: FnMut(Match, &[u8], &mut W) -> io::Result<()>>(
+        &self,
+        alloc: Global,
+        reader: &mut R,
+        writer: &mut W,
+        replace: F,
+    ) -> Result<(), ReplaceStreamError>
+        requires { F.IsAlwaysCallable replace }
+        ensures ok { OnOk result (RewritesAllBy W.contents F.step self.now replace (R.remaining reader.old)
+            (R.remaining reader.new) (W.contents writer.old) (W.contents writer.new)) }
+        ensures error { IfErr result (StopsRewritingBy W.contents F.step self.now replace (R.remaining reader.old)
+            (R.remaining reader.new) (W.contents writer.old) (W.contents writer.new)) }
+    {
         let longest = self.max_pattern_len();
         let mut window = Window::new(alloc, longest.saturating_mul(2))?;
         let (reading, failure) = (&mut Reading::new(), &mut None);
-        rewrite(
-            self,
-            &mut window,
-            reader,
-            reading,
-            writer,
-            failure,
-            replacements,
-        )
+        rewrite(self, &mut window, reader, reading, writer, failure, replace)
+    }
+}
+
+/// Writes the replacement of a match, or nothing if there is none.
+fn put_replacement<W: Write>(replacements: &[&[u8]], found: Match, writer: &mut W) -> io::Result<()>
+    ensures { OnOk result (Appends (W.contents writer.old) (W.contents writer.new)
+        (pattern_at (map (λ r. r.now) replacements.now) found.pattern)) }
+{
+    match replacements.get(found.pattern().as_usize()) {
+        Some(replacement) => writer.write_all(replacement),
+        None => Ok(()),
     }
 }
 
 /// Reads a text through an empty window, and writes it with its matches replaced. If writing fails, `failure` is the
 /// kind of the error.
-fn rewrite<R: Read, W: Write>(
+fn rewrite<R: Read, W: Write, F: FnMut(Match, &[u8], &mut W) -> io::Result<()>>(
     search: &Search,
     window: &mut Window,
     reader: &mut R,
     reading: &mut Reading,
     writer: &mut W,
     failure: &mut Option<ErrorKind>,
-    replacements: &[&[u8]],
+    mut replace: F,
 ) -> Result<(), ReplaceStreamError>
     requires sound { IsSoundStream (longest_of search.now.query.patterns) window.old reading.old
         (R.remaining reader.old) }
     requires empty { held window.old ≡ [] }
     requires first { window.old.offset ≡ 0 }
-    requires one_for_each { length replacements.now ≡ length search.now.query.patterns }
-    ensures ok { OnOk result (RewritesAll search.now (map (λ r. r.now) replacements.now)
-        (R.remaining reader.old) (R.remaining reader.new) (W.contents writer.old) (W.contents writer.new)) }
-    ensures error { IfErr result (StopsRewriting search.now (map (λ r. r.now) replacements.now)
-        (R.remaining reader.old) (R.remaining reader.new) (W.contents writer.old) (W.contents writer.new)) }
+    requires callable { F.IsAlwaysCallable replace }
+    ensures ok { OnOk result (RewritesAllBy W.contents F.step search.now replace (R.remaining reader.old)
+        (R.remaining reader.new) (W.contents writer.old) (W.contents writer.new)) }
+    ensures error { IfErr result (StopsRewritingBy W.contents F.step search.now replace (R.remaining reader.old)
+        (R.remaining reader.new) (W.contents writer.old) (W.contents writer.new)) }
     ensures cause { IfErr result (IsOfFailure reading.new.failure failure.new) }
 {
     let mut is_over = false;
     while !is_over {
-        let known = next_known(search, window, reader, reading);
-        let to = write_known(window, &known, replacements, writer, failure)?;
+        let to = match next_known(search, window, reader, reading) {
+            SoFar::Found(found) => {
+                put(&window.held()[..found.start()], writer, failure)?;
+                let bytes = &window.held()[found.start()..found.end()];
+                let answer = replace(found.offset(window.offset), bytes, writer);
+                after_write(answer, failure)?;
+                found.end()
+            }
+            SoFar::NoneBefore(offset) => {
+                put(&window.held()[..offset], writer, failure)?;
+                offset
+            }
+        };
         window.pass(to);
         is_over = to == 0;
     }
     match reading.take_error() {
         Some(error) => Err(ReplaceStreamError::ReadFailed(error)),
         None => Ok(()),
-    }
-}
-
-/// Writes the held bytes as far as they are known, with a match replaced. Returns how many held bytes these are.
-fn write_known<W: Write>(
-    window: &Window,
-    known: &SoFar,
-    replacements: &[&[u8]],
-    writer: &mut W,
-    failure: &mut Option<ErrorKind>,
-) -> Result<usize, ReplaceStreamError>
-    requires window { IsWindow window.now }
-    requires within { told_to known.now ≤ length (held window.now) }
-    requires one_for_each { MayBeKnown (length replacements.now) 0 known.now }
-    ensures to { IfOk result (λ to. to ≡ told_to known.now) }
-    ensures written { OnOk result (Appends (W.contents writer.old) (W.contents writer.new)
-        (known_part (map (λ r. r.now) replacements.now) (held window.now) known.now)) }
-    ensures error { IfErr result (IsOfFailure None failure.new) }
-{
-    match known {
-        SoFar::Found(found) => {
-            put(&window.held()[..found.start()], writer, failure)?;
-            put(replacements[found.pattern().as_usize()], writer, failure)?;
-            Ok(found.end())
-        }
-        SoFar::NoneBefore(offset) => {
-            put(&window.held()[..*offset], writer, failure)?;
-            Ok(*offset)
-        }
     }
 }
 

@@ -11,9 +11,8 @@ ghost use Rattle.literal_search.specs.WholeWords.{NothingAlone, OccursAlone, Sca
 ghost use Rattle.literal_search.specs.WholeWords.{is_ascii_word_byte, most_words_to_come};
 
 use crate::BuildError;
-use crate::backward::{Continuation, offset_after};
 use crate::search::Search;
-use crate::word_search::{KnownStarts, Words};
+use crate::word_text::WordMatchesBySides;
 use literal_base::alphabet::ByteSet;
 use literal_base::count::Tally;
 use literal_base::packed::MatchKind;
@@ -39,16 +38,16 @@ use std::marker::Model;
 /// ```
 #[derive(Drop)]
 pub struct WholeWords {
-    parts: Parts,
+    pub(crate) parts: Parts,
 }
 
 /// The data of a search for whole words. Its search prefers the longest match for either match kind, since with the
 /// other rule a pattern never matches if an earlier one is its prefix.
 #[derive(Drop)]
-struct Parts {
-    kind: MatchKind,
-    search: Search,
-    word_bytes: ByteSet,
+pub struct Parts {
+    pub kind: MatchKind,
+    pub search: Search,
+    pub word_bytes: ByteSet,
 }
 
 impl Model for WholeWords {
@@ -132,12 +131,7 @@ impl WholeWords {
         ensures not_empty { IfSome result (λ found. found.start < found.end) }
         ensures bounded { ScansFirstWord self.now.search.query.patterns span result tally.old tally.new }
     {
-        let (kind, word_bytes) = (self.parts.kind, self.parts.word_bytes);
-        let words = Words::new(kind, self.parts.search.backward(), word_bytes);
-        let Ok(answer) = words.find_in(haystack, span, tally) else {
-            unreachable!();
-        };
-        answer
+        self.find_by_sides(haystack, haystack, span, tally)
     }
 
     /// Returns whether a pattern occurs in the haystack as a whole word.
@@ -181,14 +175,8 @@ impl WholeWords {
           known = span.start;
         } }
     {
-        let (kind, word_bytes) = (self.parts.kind, self.parts.word_bytes);
         WholeWordMatches {
-            parts: &self.parts,
-            words: Words::new(kind, self.parts.search.backward(), word_bytes),
-            haystack,
-            span,
-            at: span.start,
-            starts: KnownStarts::new(span.start),
+            matches: self.matches_by_sides(haystack, haystack, span),
         }
     }
 
@@ -260,33 +248,18 @@ impl WholeWords {
 /// its first `None` it always answers `None`.
 #[derive(Drop)]
 pub struct WholeWordMatches<'s, 'h> {
-    parts: &'s Parts,
-    words: Words<'s>,
-    haystack: &'h [u8],
-    span: Span,
-    at: usize,
-    starts: KnownStarts,
+    matches: WordMatchesBySides<'s, 'h>,
 }
 
 impl<'s, 'h> Model for WholeWordMatches<'s, 'h> {
-    ghost use Rattle.std.specs.Prelude.{◌≤◌};
+    ghost use Rattle.std.specs.Prelude.{◌≡◌};
     ghost use Rattle.literal_search.specs.WholeWords.{WholeWordMatchesValue};
-    ghost use Rattle.literal_search.specs.Inside.WholeWords.{AreKnownStarts, AreWordParts, AreWordsFor, owned_parts};
-    ghost use Rattle.literal_search.specs.Inside.WholeWords.{whole_words_value};
 
     ghost Value = { WholeWordMatchesValue };
 
-    ghost view = { λ m. record {
-      words = whole_words_value (owned_parts m.parts.now);
-      haystack = m.haystack.now;
-      span = m.span;
-      at = m.at;
-      from = m.starts.at;
-      known = m.starts.marks.known;
-    } };
+    ghost view = { λ m. m.matches.matches };
 
-    ghost invariant = { λ m. AreWordParts (owned_parts m.parts.now) × AreWordsFor (owned_parts m.parts.now) m.words
-        × AreKnownStarts m.words m.haystack.now m.span m.starts × (m.starts.at ≤ m.at) × (m.at ≤ m.span.end) };
+    ghost invariant = { λ m. m.matches.sides ≡ m.matches.matches.haystack };
 }
 
 impl<'s, 'h> WholeWordMatches<'s, 'h> {
@@ -298,16 +271,7 @@ impl<'s, 'h> WholeWordMatches<'s, 'h> {
         ensures scans { ScansWords self.old.words.search.query.patterns self.old.span self.old.from self.new.from
             self.old.known self.new.known tally.old tally.new }
     {
-        let (span, at) = (self.span, self.at);
-        let haystack = self.haystack;
-        let next = self
-            .words
-            .next_word(haystack, span, at, &mut self.starts, tally);
-        let Ok(answer) = next else {
-            unreachable!();
-        };
-        self.at = offset_after(Continuation::AtEnd, span, &answer);
-        answer
+        self.matches.next_counted(tally)
     }
 }
 

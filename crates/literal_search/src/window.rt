@@ -104,7 +104,7 @@ impl Window {
         }
     }
 
-    /// Moves the held bytes to the front if they reach the end of the room.
+    /// Moves the held bytes to the front if they reach the end of the room, or if there are none.
     fn make_room(&mut self)
         requires window { IsWindow self.old }
         requires room { length (held self.old) < length self.old.bytes.items }
@@ -114,7 +114,7 @@ impl Window {
         ensures held { held self.new ≡ held self.old }
         ensures offset { self.new.offset ≡ self.old.offset }
     {
-        if self.end == self.bytes.len() {
+        if self.end == self.bytes.len() || self.start == self.end {
             self.bytes.copy_within(self.start..self.end, 0);
             self.end -= self.start;
             self.start = 0;

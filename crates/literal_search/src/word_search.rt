@@ -1,5 +1,6 @@
 //! The search for whole words, by tables that are owned or lent. Lent tables may be wrong: if a number points outside
-//! the rows, the answer is `Damaged`.
+//! the rows, the answer is `Damaged`. Next to an occurrence it looks up the sides of the haystack: as many bytes, the
+//! haystack itself or others.
 ghost use Rattle.std.specs.Prelude.{◌≡◌, ◌+◌, ◌-◌, ◌*◌, ◌<◌, ◌≤◌, ℕ, IfOk, IfSome, MatchOption, None, false, length};
 ghost use Rattle.std.specs.Result.{IsOkAnd};
 ghost use Rattle.literal_base.specs.Leftmost.{IsLeftmost};
@@ -7,7 +8,7 @@ ghost use Rattle.literal_base.specs.Occurs.{IsValidSpan, between};
 ghost use Rattle.literal_base.specs.declared.packed.MatchKind.TheVariants.{LeftmostFirst, LeftmostLongest};
 ghost use Rattle.literal_search.specs.MatchesValue.{offset_after_start};
 ghost use Rattle.literal_search.specs.SearchValue.{ScansNext, looked_by};
-ghost use Rattle.literal_search.specs.WholeWords.{IsFirstAlone, ScansFirstWordBy, ScansWordsAtMost};
+ghost use Rattle.literal_search.specs.WholeWords.{IsFirstAloneBy, ScansFirstWordBy, ScansWordsAtMost};
 ghost use Rattle.literal_search.specs.WholeWords.{is_word_at, is_word_before};
 ghost use Rattle.literal_search.specs.Inside.Backward.{ForBackward, IsMatchBy, IsSafe};
 ghost use Rattle.literal_search.specs.Inside.WholeWords.{AreKnownStarts, ForWords, IsBestWord, IsEarlier};
@@ -67,13 +68,15 @@ impl<'t> Words<'t> {
     pub fn find_in(
         &self,
         haystack: &[u8],
+        sides: &[u8],
         span: Span,
         tally: &mut Tally,
     ) -> Result<Option<Match>, Damaged>
         requires safe { IsSafe self.now.backward }
         requires valid { IsValidSpan haystack.now span }
+        requires sides { length sides.now ≡ length haystack.now }
         ensures leftmost { ForWords self.now (λ parts. IsOkAnd result
-            (IsFirstAlone (whole_words_value parts) haystack.now span)) }
+            (IsFirstAloneBy (whole_words_value parts) haystack.now sides.now span)) }
         ensures lies { IfOk result (λ answer. IfSome answer (IsMatchBy self.now.backward span span.start)) }
         ensures scans { IfOk result (λ answer. ScansFirstWordBy self.now.backward.table.longest span answer
             tally.old tally.new) }
@@ -81,13 +84,14 @@ impl<'t> Words<'t> {
             tally.old tally.new }
     {
         let starts = &mut KnownStarts::new(span.start);
-        self.next_word(haystack, span, span.start, starts, tally)
+        self.next_word(haystack, sides, span, span.start, starts, tally)
     }
 
     /// The next whole word from an offset on. The starts are looked for from an offset before it on.
     pub fn next_word(
         &self,
         haystack: &[u8],
+        sides: &[u8],
         span: Span,
         at: usize,
         starts: &mut KnownStarts,
@@ -96,8 +100,9 @@ impl<'t> Words<'t> {
         requires starts { AreKnownStarts self.now haystack.now span starts.old }
         requires before { starts.old.at ≤ at }
         requires inside { at ≤ span.end }
+        requires sides { length sides.now ≡ length haystack.now }
         ensures leftmost { ForWords self.now (λ parts. IsOkAnd result
-            (IsFirstAlone (whole_words_value parts) haystack.now (between at span.end))) }
+            (IsFirstAloneBy (whole_words_value parts) haystack.now sides.now (between at span.end))) }
         ensures lies { IfOk result (λ answer. IfSome answer (IsMatchBy self.now.backward span at)) }
         ensures starts { IfOk result (λ _. AreKnownStarts self.now haystack.now span starts.new) }
         ensures at { IfOk result (λ answer. starts.new.at ≡ offset_after_start span answer) }
@@ -112,7 +117,7 @@ impl<'t> Words<'t> {
         ensures ended { starts.old.at ≡ span.end → IsOkAnd result (λ answer. answer ≡ None) }
     {
         while let Some(found) = self.next_start(haystack, span, starts, tally)? {
-            if let Some(word) = self.best_word(haystack, found.span(), at, tally)? {
+            if let Some(word) = self.best_word(haystack, sides, found.span(), at, tally)? {
                 return Ok(Some(word));
             }
         }
@@ -154,15 +159,17 @@ impl<'t> Words<'t> {
     fn best_word(
         &self,
         haystack: &[u8],
+        sides: &[u8],
         span: Span,
         from: usize,
         tally: &mut Tally,
     ) -> Result<Option<Match>, Damaged>
         requires safe { IsSafe self.now.backward }
         requires valid { IsValidSpan haystack.now span }
+        requires sides { length sides.now ≡ length haystack.now }
         ensures best { ForWords self.now (λ parts. IsOkAnd result (λ answer. MatchOption answer
-            (from ≤ span.start → (i : ℕ) → ¬ IsWordAt parts haystack.now span i)
-            (IsBestWord parts.kind parts haystack.now span))) }
+            (from ≤ span.start → (i : ℕ) → ¬ IsWordAt parts haystack.now sides.now span i)
+            (IsBestWord parts.kind parts haystack.now sides.now span))) }
         ensures after { IfOk result (λ answer. IfSome answer (λ _. from ≤ span.start)) }
         ensures lies { IfOk result (λ answer. IfSome answer (IsMatchAtStart self.now span)) }
         ensures scans { ScansEnds self.now.backward.table.longest span.start (span.end + 1) tally.old tally.new }
@@ -171,12 +178,12 @@ impl<'t> Words<'t> {
         if span.start < from {
             return Ok(None);
         }
-        if self.is_word_before(haystack, span.start, tally) {
+        if self.is_word_before(sides, span.start, tally) {
             return Ok(None);
         }
         match self.kind {
-            MatchKind::LeftmostLongest => self.longest_word(haystack, span, tally),
-            MatchKind::LeftmostFirst => self.first_word(haystack, span, tally),
+            MatchKind::LeftmostLongest => self.longest_word(haystack, sides, span, tally),
+            MatchKind::LeftmostFirst => self.first_word(haystack, sides, span, tally),
         }
     }
 
@@ -184,22 +191,24 @@ impl<'t> Words<'t> {
     fn first_word(
         &self,
         haystack: &[u8],
+        sides: &[u8],
         span: Span,
         tally: &mut Tally,
     ) -> Result<Option<Match>, Damaged>
         requires safe { IsSafe self.now.backward }
         requires valid { IsValidSpan haystack.now span }
-        requires before { is_word_before self.now.word_bytes haystack.now span.start ≡ false }
+        requires sides { length sides.now ≡ length haystack.now }
+        requires before { is_word_before self.now.word_bytes sides.now span.start ≡ false }
         ensures best { ForWords self.now (λ parts. IsOkAnd result (λ answer. MatchOption answer
-            ((i : ℕ) → ¬ IsWordAt parts haystack.now span i)
-            (IsBestWord LeftmostFirst parts haystack.now span))) }
+            ((i : ℕ) → ¬ IsWordAt parts haystack.now sides.now span i)
+            (IsBestWord LeftmostFirst parts haystack.now sides.now span))) }
         ensures lies { IfOk result (λ answer. IfSome answer (IsMatchAtStart self.now span)) }
         ensures scans { ScansEnds self.now.backward.table.longest span.start span.end tally.old tally.new }
         ensures least { IfOk result (λ _. tally.old.scanned ≤ tally.new.scanned) }
     {
         let mut first = None;
         let mut rest = span;
-        while let Some(found) = self.longest_word(haystack, rest, tally)? {
+        while let Some(found) = self.longest_word(haystack, sides, rest, tally)? {
             first = Some(earlier(first, found));
             rest.end = found.end() - 1;
         }
@@ -210,15 +219,17 @@ impl<'t> Words<'t> {
     fn longest_word(
         &self,
         haystack: &[u8],
+        sides: &[u8],
         span: Span,
         tally: &mut Tally,
     ) -> Result<Option<Match>, Damaged>
         requires safe { IsSafe self.now.backward }
         requires valid { IsValidSpan haystack.now span }
-        requires before { is_word_before self.now.word_bytes haystack.now span.start ≡ false }
+        requires sides { length sides.now ≡ length haystack.now }
+        requires before { is_word_before self.now.word_bytes sides.now span.start ≡ false }
         ensures best { ForWords self.now (λ parts. IsOkAnd result (λ answer. MatchOption answer
-            ((i : ℕ) → ¬ IsWordAt parts haystack.now span i)
-            (IsBestWord LeftmostLongest parts haystack.now span))) }
+            ((i : ℕ) → ¬ IsWordAt parts haystack.now sides.now span i)
+            (IsBestWord LeftmostLongest parts haystack.now sides.now span))) }
         ensures lies { IfOk result (λ answer. IfSome answer (IsMatchAtStart self.now span)) }
         ensures scans { ScansEnds self.now.backward.table.longest span.start span.end tally.old tally.new }
         ensures least { IfOk result (λ _. tally.old.scanned ≤ tally.new.scanned) }
@@ -227,7 +238,7 @@ impl<'t> Words<'t> {
     {
         let mut rest = span;
         while rest.start < rest.end {
-            if self.is_word_at(haystack, rest.end, tally) {
+            if self.is_word_at(sides, rest.end, tally) {
                 rest.end -= 1;
                 continue;
             }
@@ -242,30 +253,30 @@ impl<'t> Words<'t> {
         Ok(None)
     }
 
-    /// Whether a word byte is right before an offset.
-    fn is_word_before(&self, haystack: &[u8], at: usize, tally: &mut Tally) -> bool
-        requires { at ≤ length haystack.now }
-        ensures told { result ≡ is_word_before self.now.word_bytes haystack.now at }
+    /// Whether a word byte is right before an offset of the sides.
+    fn is_word_before(&self, sides: &[u8], at: usize, tally: &mut Tally) -> bool
+        requires { at ≤ length sides.now }
+        ensures told { result ≡ is_word_before self.now.word_bytes sides.now at }
         ensures others { tally.new ≡ record tally.old { scanned = tally.new.scanned } }
         ensures most { tally.new.scanned ≤ tally.old.scanned + 1 }
         ensures least { tally.old.scanned ≤ tally.new.scanned }
     {
-        at > 0 && self.is_word_at(haystack, at - 1, tally)
+        at > 0 && self.is_word_at(sides, at - 1, tally)
     }
 
-    /// Whether a word byte is at an offset. It looks up one byte, or none at the end of the haystack.
-    fn is_word_at(&self, haystack: &[u8], at: usize, tally: &mut Tally) -> bool
-        requires { at ≤ length haystack.now }
-        ensures told { result ≡ is_word_at self.now.word_bytes haystack.now at }
+    /// Whether a word byte is at an offset of the sides. It looks up one byte, or none at their end.
+    fn is_word_at(&self, sides: &[u8], at: usize, tally: &mut Tally) -> bool
+        requires { at ≤ length sides.now }
+        ensures told { result ≡ is_word_at self.now.word_bytes sides.now at }
         ensures others { tally.new ≡ record tally.old { scanned = tally.new.scanned } }
         ensures most { tally.new.scanned ≤ tally.old.scanned + 1 }
         ensures least { tally.old.scanned ≤ tally.new.scanned }
     {
-        if at == haystack.len() {
+        if at == sides.len() {
             return false;
         }
         tally.tick_scanned();
-        self.word_bytes.contains(haystack[at])
+        self.word_bytes.contains(sides[at])
     }
 }
 

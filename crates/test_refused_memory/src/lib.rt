@@ -28,3 +28,5 @@ mod searchers;
 mod searches;
 #[cfg(test)]
 mod whole_words;
+#[cfg(test)]
+mod word_text;

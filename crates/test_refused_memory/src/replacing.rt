@@ -2,6 +2,7 @@
 use crate::made::assert_place;
 use literal_search::{BuildError, MatchKind, ReplaceError, ReplaceStreamError, Search};
 use std::alloc::{AllocError, Global};
+use std::io::Write;
 use std::process::Abort;
 
 /// A search for two words, one of which is a prefix of the other.
@@ -96,6 +97,44 @@ fn replace_stream_of_a_search(rt: HostRuntime) -> Result<(), AllocError> {
             assert!(rt; matches!(error, ReplaceStreamError::OutOfMemory));
             assert_finds(&rt, &search);
             let again = rewrite(&rt, rt.alloc(), &search);
+            again
+                .or(Err(AllocError))
+                .expect(&rt, "it was refused again")
+        }
+    };
+    assert!(rt; is_right);
+    Ok(())
+}
+
+/// The text that is written with each match between two marks, if memory is granted; otherwise nothing is read.
+fn remark(rt: &impl Abort, alloc: Global, search: &Search) -> Result<bool, ReplaceStreamError> {
+    let (mut text, mut room) = (b"qab-ABC".as_slice(), [0; 12]);
+    let mut written = room.as_mut_slice();
+    let done = search.replace_stream_with(
+        alloc,
+        &mut text,
+        &mut written,
+        |_, bytes, writer| {
+            writer.write_all(b"<")?;
+            writer.write_all(bytes)?;
+            writer.write_all(b">")
+        },
+    );
+    assert!(rt; text.is_empty() == done.is_ok());
+    done?;
+    Ok(room.starts_with(b"q<ab>-<ABC>"))
+}
+
+#[test]
+fn replace_stream_with_of_a_search(rt: HostRuntime) -> Result<(), AllocError> {
+    let built = build(rt.alloc()).or(Err(AllocError));
+    let search = built?;
+    let is_right = match remark(&rt, rt.alloc(), &search) {
+        Ok(is_right) => is_right,
+        Err(error) => {
+            assert!(rt; matches!(error, ReplaceStreamError::OutOfMemory));
+            assert_finds(&rt, &search);
+            let again = remark(&rt, rt.alloc(), &search);
             again
                 .or(Err(AllocError))
                 .expect(&rt, "it was refused again")

@@ -169,3 +169,32 @@ fn find_stream_of_a_search(rt: HostRuntime) -> Result<(), AllocError> {
     assert!(rt; count == 2);
     Ok(())
 }
+
+/// The number of occurrences in the text of a reader.
+fn count_occurrences(
+    rt: &impl Abort,
+    alloc: Global,
+    search: &Overlapping,
+) -> Result<usize, AllocError> {
+    let mut count: usize = 0;
+    for found in search.find_overlapping_stream(alloc, b"qabcaBc".as_slice())? {
+        assert!(rt; found.is_ok());
+        count = count.saturating_add(1);
+    }
+    Ok(count)
+}
+
+#[test]
+fn stream_of_overlapping(rt: HostRuntime) -> Result<(), AllocError> {
+    let built = build_overlapping(rt.alloc()).or(Err(AllocError));
+    let search = built?;
+    let count = match count_occurrences(&rt, rt.alloc(), &search) {
+        Ok(count) => count,
+        Err(_) => {
+            assert_overlaps(&rt, &search);
+            count_occurrences(&rt, rt.alloc(), &search).expect(&rt, "it was refused again")
+        }
+    };
+    assert!(rt; count == 8);
+    Ok(())
+}

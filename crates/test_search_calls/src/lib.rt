@@ -14,7 +14,11 @@ mod folding;
 #[cfg(test)]
 mod made;
 #[cfg(test)]
+mod overlapping_streams;
+#[cfg(test)]
 mod parts;
+#[cfg(test)]
+mod pieces;
 #[cfg(test)]
 mod prepared;
 #[cfg(test)]
@@ -22,6 +26,10 @@ mod replacing;
 #[cfg(test)]
 mod searches;
 #[cfg(test)]
+mod states;
+#[cfg(test)]
 mod streams;
 #[cfg(test)]
 mod whole_words;
+#[cfg(test)]
+mod word_text;

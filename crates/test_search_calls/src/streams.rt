@@ -1,31 +1,11 @@
 //! Texts that may continue, and texts that are read in pieces.
 use crate::made::{first_of, longest_of};
+use crate::pieces::Pieces;
 use literal_search::{Match, MatchKind, ReplaceStreamError, Search, SoFar, Span, Tally};
 use std::alloc::Global;
-use std::io::{self, ErrorKind, Read, Write};
+use std::io::{self, ErrorKind, Write};
 use std::process::Abort;
 use std::test::Fail;
-
-/// A reader of bytes in memory, a few per call, that fails once this many bytes are left.
-#[derive(Drop)]
-struct Pieces<'t> {
-    rest: &'t [u8],
-    step: usize,
-    failing: Option<usize>,
-}
-
-impl Read for Pieces<'_> {
-    fn read(&mut self, buf: &mut [u8]) -> io::Result<usize> {
-        if self.failing == Some(self.rest.len()) {
-            return Err(io::Error::from(ErrorKind::TimedOut));
-        }
-        let count = self.rest.len().min(self.step).min(buf.len());
-        let (first, behind) = self.rest.split_at(count);
-        buf[..count].copy_from_slice(first);
-        self.rest = behind;
-        Ok(count)
-    }
-}
 
 #[test]
 fn example_of_a_stream(rt: HostRuntime) -> Result<(), Fail> {
@@ -119,6 +99,68 @@ fn example_of_replacing_in_a_stream(rt: HostRuntime) -> Result<(), Fail> {
     assert!(rt; written.as_slice() == b"oak or pear?".as_slice());
     let too_few = search.replace_stream(alloc, &mut text, &mut written, &[b"pear"]);
     assert!(rt; matches!(too_few, Err(ReplaceStreamError::NotOneForEach)));
+    Ok(())
+}
+
+#[test]
+fn example_of_replacing_in_a_stream_with(rt: HostRuntime) -> Result<(), Fail> {
+    let alloc = rt.alloc();
+    let search = Search::builder().build(alloc, [b"apple".as_slice(), b"maple"])?;
+    let (mut text, mut written) = (b"apple, maple".as_slice(), Vec::new(alloc));
+    search.replace_stream_with(
+        alloc,
+        &mut text,
+        &mut written,
+        |_, bytes, writer| {
+            writer.write_all(b"<")?;
+            writer.write_all(bytes)?;
+            writer.write_all(b">")
+        },
+    )?;
+    assert!(rt; written.as_slice() == b"<apple>, <maple>".as_slice());
+    Ok(())
+}
+
+/// The second match is known only once the text has ended, and the calls have its offsets in the whole text.
+#[test]
+fn calls_have_offsets_in_the_text(rt: HostRuntime) -> Result<(), Fail> {
+    let (alloc, search) = (rt.alloc(), first_of(rt.alloc(), &[b"abcd", b"bc"])?);
+    let mut pieces = Pieces {
+        rest: b"xabcdxxbc",
+        step: 3,
+        failing: None,
+    };
+    let (mut written, mut ends) = (Vec::new(alloc), [0; 2]);
+    let mut count = 0;
+    search.replace_stream_with(
+        alloc,
+        &mut pieces,
+        &mut written,
+        |found, _, _| {
+            if let Some(end) = ends.get_mut(count) {
+                *end = found.end();
+                count = 1;
+            }
+            Ok(())
+        },
+    )?;
+    assert!(rt; written.as_slice() == b"xxx".as_slice());
+    assert!(rt; ends == [5, 9]);
+    Ok(())
+}
+
+#[test]
+fn a_failed_call_ends_it(rt: HostRuntime) -> Result<(), Fail> {
+    let (alloc, search) = (rt.alloc(), first_of(rt.alloc(), &[b"abcd", b"bc"])?);
+    let (mut text, mut written) = (b"xabcdx".as_slice(), Vec::new(alloc));
+    let failed = search.replace_stream_with(alloc, &mut text, &mut written, |_, _, _| {
+        Err(io::Error::from(ErrorKind::InvalidData))
+    });
+    let Err(ReplaceStreamError::WriteFailed(error)) = failed else {
+        return Err(Fail::from("no such error"));
+    };
+    assert!(rt; error.kind() == ErrorKind::InvalidData);
+    assert!(rt; written.as_slice() == b"x".as_slice());
     Ok(())
 }
 

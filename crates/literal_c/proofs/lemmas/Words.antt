@@ -11,15 +11,15 @@ use Rattle.literal_base.specs.Occurs.{between}
 use Rattle.literal_base.specs.declared.packed.MatchKind.{MatchKind}
 use Rattle.literal_base.specs.declared.search.Span.{Span}
 use Rattle.literal_search.specs.Prepared.{IsPrepared}
-use Rattle.literal_search.specs.PreparedWords.{ForWholeWords, PreparedWordMatchesValue, PreparedWordsValue}
+use Rattle.literal_search.specs.PreparedWords.{ForWholeWords, PreparedWordMatchesBySidesValue, PreparedWordsValue}
 use Rattle.literal_search.specs.PreparedWords.{word_matches_by, words_for}
 use Rattle.literal_search.specs.SearchValue.{search_by}
-use Rattle.literal_search.specs.WholeWords.{AreWholeWords, GivesWholeWord, IsFirstAlone, IsLeftmostAlone, NothingAlone}
-use Rattle.literal_search.specs.WholeWords.{OccursAlone, WholeWordsValue}
+use Rattle.literal_search.specs.WholeWords.{AreWholeWordsBy, GivesWholeWordBy, IsFirstAloneBy, IsLeftmostAloneBy}
+use Rattle.literal_search.specs.WholeWords.{NothingAloneBy, OccursAloneBy, WholeWordsValue}
 use Rattle.literal_c.specs.Answers.{match_of}
 use Rattle.literal_c.specs.Arguments.{kind_of}
 use Rattle.literal_c.specs.Inside.Given.{AreWordsBy}
-use Rattle.literal_c.specs.Words.{ContinueWords, ForAsciiWords, IsWordPage}
+use Rattle.literal_c.specs.Words.{ContinueWordsBy, ForAsciiWords, IsWordPageBy}
 use Rattle.literal_c.specs.declared.LiteralMatch.{LiteralMatch}
 use Rattle.literal_c.specs.declared.LiteralPage.{LiteralPage}
 
@@ -38,25 +38,33 @@ for_ascii kind number array words are kind_is P holds = λ search is longest.
     )
 
 -- what an iteration gives that goes on at a place
-pub first_by : (m new : PreparedWordMatchesValue) (words : PreparedWordsValue) (haystack : List ℕ) (span : Span)
-    (at : ℕ) (answer : Option MatchValue) → m.words ≡ words → m.haystack ≡ haystack → m.span ≡ span → m.at ≡ at
-    → ForWholeWords m.words (λ w. GivesWholeWord (word_matches_by m w) answer (word_matches_by new w))
-    → ForWholeWords words (λ w. IsFirstAlone w haystack (between at span.end) answer)
-first_by m new words haystack span at answer words_is haystack_is span_is at_is gives = λ search given longest.
+pub first_by : (m new : PreparedWordMatchesBySidesValue) (words : PreparedWordsValue) (haystack sides : List ℕ)
+    (span : Span) (at : ℕ) (answer : Option MatchValue) → m.matches.words ≡ words → m.matches.haystack ≡ haystack
+    → m.sides ≡ sides → m.matches.span ≡ span → m.matches.at ≡ at
+    → ForWholeWords m.matches.words (λ w.
+    GivesWholeWordBy m.sides (word_matches_by m.matches w) answer (word_matches_by new.matches w))
+    → ForWholeWords words (λ w. IsFirstAloneBy w haystack sides (between at span.end) answer)
+first_by m new words haystack sides span at answer words_is haystack_is sides_is span_is at_is gives =
+    λ search given longest.
+    let it = m.matches in
+    let w = words_for search it.words in
     let is = subst (λ (w : PreparedWordsValue). IsPrepared search w.numbers) (sym words_is) given in
-    subst (λ (w : PreparedWordsValue). IsFirstAlone (words_for search w) haystack (between at span.end) answer) words_is
-    (subst (λ (h : List ℕ). IsFirstAlone (words_for search m.words) h (between at span.end) answer) haystack_is
-    (subst (λ (s : Span). IsFirstAlone (words_for search m.words) m.haystack (between at s.end) answer) span_is
-    (subst (λ (n : ℕ). IsFirstAlone (words_for search m.words) m.haystack (between n m.span.end) answer) at_is
-    (gives search is longest).leftmost)))
+    subst (λ (w : PreparedWordsValue). IsFirstAloneBy (words_for search w) haystack sides (between at span.end) answer)
+    words_is
+    (subst (λ (h : List ℕ). IsFirstAloneBy w h sides (between at span.end) answer) haystack_is
+    (subst (λ (s : List ℕ). IsFirstAloneBy w it.haystack s (between at span.end) answer) sides_is
+    (subst (λ (s : Span). IsFirstAloneBy w it.haystack m.sides (between at s.end) answer) span_is
+    (subst (λ (n : ℕ). IsFirstAloneBy w it.haystack m.sides (between n it.span.end) answer) at_is
+    (gives search is longest).leftmost))))
 
-module _ (words : WholeWordsValue) (haystack : List ℕ) (span : Span) where
+module _ (words : WholeWordsValue) (haystack sides : List ℕ) (span : Span) where
   abbrev IsWordIn : ℕ → ℕ → ℕ → Type 0
-  IsWordIn start i at = OccursAlone words.search.query.patterns words.search.ignore_case words.word_bytes haystack
+  IsWordIn start i at = OccursAloneBy words.search.query.patterns words.search.ignore_case words.word_bytes haystack
+      sides
       (between start span.end) i at
 
   abbrev IsFirst : ℕ → MatchValue → Type 0
-  IsFirst start = IsLeftmostAlone words.search.query words.search.ignore_case words.word_bytes haystack
+  IsFirst start = IsLeftmostAloneBy words.search.query words.search.ignore_case words.word_bytes haystack sides
       (between start span.end)
 
   -- a whole word from a place on is one from another, if it begins after that
@@ -73,8 +81,8 @@ module _ (words : WholeWordsValue) (haystack : List ℕ) (span : Span) where
 
   -- the whole words from the start of the first one on are those from a place before
   pub from_first : (at : ℕ) (found : MatchValue) → IsFirst at found → (more : List MatchValue)
-      → AreWholeWords words haystack (between found.start span.end) more
-      → AreWholeWords words haystack (between at span.end) more
+      → AreWholeWordsBy words haystack sides (between found.start span.end) more
+      → AreWholeWordsBy words haystack sides (between at span.end) more
   from_first at found first [] none = λ i k word.
       elim (cases_lt k found.start) [
         | inl before ↦ first.earliest i k before word
@@ -97,46 +105,51 @@ module _ (words : WholeWordsValue) (haystack : List ℕ) (span : Span) where
   )
 
   -- one more whole word follows
-  pub continue_on : (done : List MatchValue) (at : ℕ) (found : MatchValue) → ContinueWords words haystack span done at
-      → IsFirst at found → ContinueWords words haystack span (done ++ found ∷ []) found.end
+  pub continue_on : (done : List MatchValue) (at : ℕ) (found : MatchValue) → ContinueWordsBy words haystack sides span
+      done at
+      → IsFirst at found → ContinueWordsBy words haystack sides span (done ++ found ∷ []) found.end
   continue_on done at found so_far first = λ more rest.
-      subst (AreWholeWords words haystack span) (sym (append_assoc done (found ∷ []) more))
+      subst (AreWholeWordsBy words haystack sides span) (sym (append_assoc done (found ∷ []) more))
       (so_far (found ∷ more) (first, rest))
 
   -- it is written after the others
   pub written_on : (i at : ℕ) (written : List LiteralMatch) (found : LiteralMatch) → i < length written
-      → ContinueWords words haystack span (map match_of (take i written)) at → IsFirst at (match_of found)
-      → ContinueWords words haystack span (map match_of (take (i + 1) (set written i found))) found.end
+      → ContinueWordsBy words haystack sides span (map match_of (take i written)) at → IsFirst at (match_of found)
+      → ContinueWordsBy words haystack sides span (map match_of (take (i + 1) (set written i found))) found.end
   written_on i at written found lt so_far first =
       let list : map match_of (take (i + 1) (set written i found))
       ≡ map match_of (take i written) ++ match_of found ∷ [] =
       ap (map match_of) (rw add-one (take-suc-set written i found lt))
       ∙ map-append match_of (take i written) (found ∷ []) in
-      subst (λ all. ContinueWords words haystack span all found.end) (sym list)
+      subst (λ all. ContinueWordsBy words haystack sides span all found.end) (sym list)
       (continue_on (map match_of (take i written)) at (match_of found) so_far first)
 
   -- the last page
   pub last_page : (old new : List LiteralMatch) (i : ℕ) (page : LiteralPage) → page.written ≡ i → page.is_last ≡ 1
       → length new ≡ length old → i ≤ length new
-      → ContinueWords words haystack span (map match_of (take i new)) page.next → drop i new ≡ drop i old
-      → NothingAlone words haystack (between page.next span.end) → IsWordPage words haystack span old new page
+      → ContinueWordsBy words haystack sides span (map match_of (take i new)) page.next → drop i new ≡ drop i old
+      → NothingAloneBy words haystack sides (between page.next span.end) → IsWordPageBy words haystack sides span old
+      new page
   last_page old new i page count last len fits so_far others none = record {
     len = len;
     fits = omega (arith, count, fits);
-    continue = subst (λ n. ContinueWords words haystack span (map match_of (take n new)) page.next) (sym count) so_far;
+    continue = subst (λ n. ContinueWordsBy words haystack sides span (map match_of (take n new)) page.next) (sym count)
+        so_far;
     others = subst (λ n. drop n new ≡ drop n old) (sym count) others;
     rest = inl (last, none);
   }
 
   -- a full page, with another whole word after it
   pub full_page : (old new : List LiteralMatch) (i written at : ℕ) (found : MatchValue) → written ≡ i
-      → length new ≡ length old → i ≡ length new → ContinueWords words haystack span (map match_of (take i new)) at
-      → drop i new ≡ drop i old → IsFirst at found → IsWordPage words haystack span old new
+      → length new ≡ length old → i ≡ length new → ContinueWordsBy words haystack sides span (map match_of (take i
+      new)) at
+      → drop i new ≡ drop i old → IsFirst at found → IsWordPageBy words haystack sides span old new
       (let p : LiteralPage = record { written = written; next = found.start; is_last = 0 } in p)
   full_page old new i written at found count len full so_far others first = record {
     len = len;
     fits = omega (arith, count, full);
-    continue = subst (λ n. ContinueWords words haystack span (map match_of (take n new)) found.start) (sym count)
+    continue = subst (λ n. ContinueWordsBy words haystack sides span (map match_of (take n new)) found.start) (sym
+        count)
         (λ more rest. so_far more (from_first at found first more rest));
     others = subst (λ n. drop n new ≡ drop n old) (sym count) others;
     rest = inr (

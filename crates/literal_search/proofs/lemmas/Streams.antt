@@ -302,12 +302,12 @@ ends_failed old now new error failed none is gone =
     grind arith
 
 -- what is read of a known text, and what is then known to follow, is all that is ahead
-seen_all : (held piece rest : List ℕ) (unread : Option (List ℕ)) → Consumes (Some rest) unread piece
+pub seen_all : (held piece rest : List ℕ) (unread : Option (List ℕ)) → Consumes (Some rest) unread piece
     → (unread ≡ Some (known unread)) × ((held ++ piece) ++ known unread ≡ held ++ rest)
 seen_all held piece rest unread taken = grind (arith, append_assoc)
 
 -- and where nothing is left it is all
-seen_whole : (held piece rest : List ℕ) (unread : Option (List ℕ)) → IsAtEnd unread
+pub seen_whole : (held piece rest : List ℕ) (unread : Option (List ℕ)) → IsAtEnd unread
     → Consumes (Some rest) unread piece → held ++ piece ≡ held ++ rest
 seen_whole held piece rest unread over taken = grind (arith, append-nil)
 

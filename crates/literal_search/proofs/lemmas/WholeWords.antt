@@ -10,12 +10,14 @@ use Rattle.literal_base.specs.MatchValue.{MatchValue}
 use Rattle.literal_base.specs.Occurs.{NoneIsEmpty, between, pattern_at}
 use Rattle.literal_base.specs.declared.packed.MatchKind.TheVariants.{LeftmostLongest}
 use Rattle.literal_base.specs.declared.search.Span.{Span}
-use Rattle.literal_search.specs.Inside.WholeWords.{AreWordParts, AreWordsFor, AreWordsIn, AreWordsUpTo, ForWords}
-use Rattle.literal_search.specs.Inside.WholeWords.{IsBestWord, IsWordAt, ScansEnds, WordParts, whole_words_value}
+use Rattle.literal_search.specs.Inside.WholeWords.{AreWordParts, AreWordsFor, AreWordsIn, AreWordsUpTo, AreWordsUpToBy}
+use Rattle.literal_search.specs.Inside.WholeWords.{ForWords, IsBestWord, IsWordAt, ScansEnds, WordParts}
+use Rattle.literal_search.specs.Inside.WholeWords.{whole_words_value}
 use Rattle.literal_search.specs.Prepared.{IsPrepared}
 use Rattle.literal_search.specs.PreparedWords.{PreparedWordsValue}
 use Rattle.literal_search.specs.SearchValue.{ScansNext, SearchValue}
-use Rattle.literal_search.specs.WholeWords.{AreWholeWords, IsAlone, IsFirstAlone, IsLeftmostAlone, OccursAlone}
+use Rattle.literal_search.specs.WholeWords.{AreWholeWords, IsAlone, IsFirstAlone, IsFirstAloneBy, IsLeftmostAloneBy}
+use Rattle.literal_search.specs.WholeWords.{OccursAloneBy}
 use Rattle.literal_search.specs.WholeWords.{ScansWordsAtMost, WholeWordsValue, is_word_at, is_word_before, most_anew}
 use Rattle.literal_search.specs.WholeWords.{most_at_start}
 use Rattle.literal_search.specs.declared.backward.TheConstants.{LEAST}
@@ -68,20 +70,21 @@ pub is_some : (p : WordParts) → AreWordParts p → (i : ℕ) → i < length p.
 is_some p parts i is =
     All-get_or (λ (bytes : List ℕ). 0 < length bytes) p.search.query.patterns i [] is parts.some
 
-module _ (p : WordParts) (parts : AreWordParts p) (haystack : List ℕ) (at from end : ℕ) (found : MatchValue)
+module _ (p : WordParts) (parts : AreWordParts p) (haystack sides : List ℕ) (at from end : ℕ) (found : MatchValue)
     (leftmost : IsLeftmostMatch p.search.query p.search.ignore_case haystack (between from end) found) where
   -- a pattern occurs after an offset as a whole word
   abbrev IsWordFrom : ℕ → ℕ → Type 0
-  IsWordFrom i k = OccursAlone p.search.query.patterns p.search.ignore_case p.word_bytes haystack (between at end) i k
+  IsWordFrom i k =
+      OccursAloneBy p.search.query.patterns p.search.ignore_case p.word_bytes haystack sides (between at end) i k
 
   abbrev size : ℕ → ℕ
   size i = length (pattern_at p.search.query.patterns i)
 
   -- the same in another span in which it lies
   word_in : {a b : Span} {i k : ℕ}
-      → OccursAlone p.search.query.patterns p.search.ignore_case p.word_bytes haystack a i k
+      → OccursAloneBy p.search.query.patterns p.search.ignore_case p.word_bytes haystack sides a i k
       → b.start ≤ k → k + size i ≤ b.end
-      → OccursAlone p.search.query.patterns p.search.ignore_case p.word_bytes haystack b i k
+      → OccursAloneBy p.search.query.patterns p.search.ignore_case p.word_bytes haystack sides b i k
   word_in o after before = record {
     occurs = record {
       is_pattern = o.occurs.is_pattern;
@@ -93,14 +96,14 @@ module _ (p : WordParts) (parts : AreWordParts p) (haystack : List ℕ) (at from
   }
 
   -- what occurs at the start of a longest match lies whole in it
-  lies_in : (i : ℕ) → IsWordFrom i found.start → IsWordAt p haystack (between found.start found.end) i
+  lies_in : (i : ℕ) → IsWordFrom i found.start → IsWordAt p haystack sides (between found.start found.end) i
   lies_in i word =
       word_in word (omega arith) (none_longer p.search.query p.search.ignore_case haystack (between from end) found
       parts.longest leftmost i (word_in word leftmost.occurs.after_start word.occurs.before_end).occurs)
 
   -- no whole word begins before an offset, nor at the next start
   pub none_further : ((i k : ℕ) → at ≤ k → k < from → ¬ IsWordFrom i k)
-      → (at ≤ found.start → (i : ℕ) → ¬ IsWordAt p haystack (between found.start found.end) i)
+      → (at ≤ found.start → (i : ℕ) → ¬ IsWordAt p haystack sides (between found.start found.end) i)
       → (i k : ℕ) → at ≤ k → k < found.start + 1 → ¬ IsWordFrom i k
   none_further none here i k after before word =
       elim (cases_lt k from) [
@@ -116,9 +119,9 @@ module _ (p : WordParts) (parts : AreWordParts p) (haystack : List ℕ) (at from
 
   -- the best whole word at the next start is the leftmost one
   pub best_is_leftmost : ((i k : ℕ) → at ≤ k → k < from → ¬ IsWordFrom i k) → at ≤ found.start → (word : MatchValue)
-      → IsBestWord p.kind p haystack (between found.start found.end) word
-      → IsLeftmostAlone (whole_words_value p).search.query p.search.ignore_case p.word_bytes haystack (between at end)
-      word
+      → IsBestWord p.kind p haystack sides (between found.start found.end) word
+      → IsLeftmostAloneBy (whole_words_value p).search.query p.search.ignore_case p.word_bytes haystack sides
+      (between at end) word
   best_is_leftmost none after word best =
       let here = λ (i : ℕ) (o : IsWordFrom i word.start).
       lies_in i (subst (λ k. IsWordFrom i k) best.word.start o) in
@@ -229,11 +232,18 @@ words_damaged longest span first old known before t0 t1 t2 so_far others most la
 }
 
 -- the whole words so far, with the next one
+pub words_next_by : (words : WholeWordsValue) (haystack sides : List ℕ) (span : Span) (done : List MatchValue) (at : ℕ)
+    (found : MatchValue) → AreWordsUpToBy words haystack sides span done at
+    → IsFirstAloneBy words haystack sides (between at span.end) (Some found) → found.start < found.end
+    → AreWordsUpToBy words haystack sides span (done ++ found ∷ []) found.end
+words_next_by words haystack sides span done at found so_far leftmost some = grind (arith, append_assoc)
+
+-- the same by the bytes of the haystack itself
 pub words_next : (words : WholeWordsValue) (haystack : List ℕ) (span : Span) (done : List MatchValue) (at : ℕ)
     (found : MatchValue) → AreWordsUpTo words haystack span done at
     → IsFirstAlone words haystack (between at span.end) (Some found) → found.start < found.end
     → AreWordsUpTo words haystack span (done ++ found ∷ []) found.end
-words_next words haystack span done at found so_far leftmost some = grind (arith, append_assoc)
+words_next words haystack = words_next_by words haystack haystack
 
 -- whether a part of a haystack is alone
 alone_or_not : (word_bytes : List Bool) (haystack : List ℕ) (start end : ℕ)

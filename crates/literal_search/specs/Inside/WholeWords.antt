@@ -8,10 +8,11 @@ use Rattle.literal_base.specs.declared.packed.MatchKind.{MatchKind}
 use Rattle.literal_base.specs.declared.packed.MatchKind.TheVariants.{LeftmostLongest}
 use Rattle.literal_base.specs.declared.search.Span.{Span}
 use Rattle.literal_search.specs.SearchValue.{SearchValue, looked_by, search_by}
-use Rattle.literal_search.specs.WholeWords.{AreWholeWords, OccursAlone, WholeWordsValue}
+use Rattle.literal_search.specs.WholeWords.{AreWholeWordsBy, OccursAloneBy, WholeWordsValue}
 use Rattle.literal_search.specs.Inside.Backward.{AreBackFor, AreMarked, ForBackward, IsAhead, IsMatchBy, IsSafe}
 use Rattle.literal_search.specs.Inside.Prepared.{IsBackIn}
 use Rattle.literal_search.specs.PreparedWords.{PreparedWordsValue}
+use Rattle.literal_search.specs.WordText.{sides_of}
 use Rattle.literal_search.specs.declared.backward.TheConstants.{LEAST}
 use Rattle.literal_search.specs.declared.whole_words.Parts.{Parts}
 use Rattle.literal_search.specs.declared.word_search.KnownStarts.{KnownStarts}
@@ -35,29 +36,29 @@ pub record AreWordParts (p : WordParts) : Type 0 where
   pub longest : p.search.query.kind ≡ LeftmostLongest
   pub some : NoneIsEmpty p.search.query.patterns
 
--- a pattern occurs at the start of a span, whole in it, and as a whole word
-abbrev pub IsWordAt : WordParts → List ℕ → Span → ℕ → Type 0
-IsWordAt p haystack span i =
-    OccursAlone p.search.query.patterns p.search.ignore_case p.word_bytes haystack span i span.start
+-- a pattern occurs at the start of a span, whole in it, and as a whole word by the sides of the haystack
+abbrev pub IsWordAt : WordParts → List ℕ → List ℕ → Span → ℕ → Type 0
+IsWordAt p haystack sides span i =
+    OccursAloneBy p.search.query.patterns p.search.ignore_case p.word_bytes haystack sides span i span.start
 
 -- the match is a whole word at the start of a span, not empty, and whole in the span
-pub record IsWord (p : WordParts) (haystack : List ℕ) (span : Span) (found : MatchValue) : Type 0 where
-  pub occurs : IsWordAt p haystack span found.pattern
+pub record IsWord (p : WordParts) (haystack sides : List ℕ) (span : Span) (found : MatchValue) : Type 0 where
+  pub occurs : IsWordAt p haystack sides span found.pattern
   pub start : found.start ≡ span.start
   pub whole : found.end ≡ found.start + length (pattern_at p.search.query.patterns found.pattern)
   pub some : found.start < found.end
 
 -- the whole word that a tie rule prefers, of those that begin at the start of a span and lie whole in it
-pub record IsBestWord (kind : MatchKind) (p : WordParts) (haystack : List ℕ) (span : Span) (found : MatchValue)
+pub record IsBestWord (kind : MatchKind) (p : WordParts) (haystack sides : List ℕ) (span : Span) (found : MatchValue)
     : Type 0 where
-  pub word : IsWord p haystack span found
-  pub best : (i : ℕ) → IsBetter kind p.search.query.patterns i found.pattern → ¬ IsWordAt p haystack span i
+  pub word : IsWord p haystack sides span found
+  pub best : (i : ℕ) → IsBetter kind p.search.query.patterns i found.pattern → ¬ IsWordAt p haystack sides span i
 
 -- no whole word at the start of a span that ends after an offset is earlier in the list than the answer
-abbrev pub IsFirstUpTo : WordParts → List ℕ → Span → ℕ → Option MatchValue → Type 0
-IsFirstUpTo p haystack span end answer = MatchOption answer
-    ((i : ℕ) → IsWordAt p haystack span i → span.start + length (pattern_at p.search.query.patterns i) ≤ end)
-    (λ found. IsWord p haystack span found × ((i : ℕ) → IsWordAt p haystack span i
+abbrev pub IsFirstUpTo : WordParts → List ℕ → List ℕ → Span → ℕ → Option MatchValue → Type 0
+IsFirstUpTo p haystack sides span end answer = MatchOption answer
+    ((i : ℕ) → IsWordAt p haystack sides span i → span.start + length (pattern_at p.search.query.patterns i) ≤ end)
+    (λ found. IsWord p haystack sides span found × ((i : ℕ) → IsWordAt p haystack sides span i
     → (span.start + length (pattern_at p.search.query.patterns i) ≤ end) ⊎ (found.pattern ≤ i)))
 
 -- at most one byte more than the longest pattern has is looked up for each byte by which an end advances
@@ -111,10 +112,21 @@ pub record AreKnownStarts (w : Words) (haystack : List ℕ) (span : Span) (s : K
   pub marked : w.backward.table.longest ≤ LEAST
       → ForBackward w.backward (λ tables. AreMarked tables haystack span s.at s.numbers s.marks)
 
--- the whole words so far, before an offset: followed by the list of the rest, they are the list of the span
-pub record AreWordsUpTo (words : WholeWordsValue) (haystack : List ℕ) (span : Span) (done : List MatchValue) (at : ℕ)
-    : Type 0 where
+-- the whole words so far, by the sides of a haystack, before an offset: followed by the list of the rest, they are the
+-- list of the span
+pub record AreWordsUpToBy (words : WholeWordsValue) (haystack sides : List ℕ) (span : Span) (done : List MatchValue)
+    (at : ℕ) : Type 0 where
   pub after : span.start ≤ at
   pub inside : at ≤ span.end
-  pub goes_on : (more : List MatchValue) → AreWholeWords words haystack (between at span.end) more
-      → AreWholeWords words haystack span (done ++ more)
+  pub goes_on : (more : List MatchValue) → AreWholeWordsBy words haystack sides (between at span.end) more
+      → AreWholeWordsBy words haystack sides span (done ++ more)
+
+-- the same by the bytes of the haystack itself
+abbrev pub AreWordsUpTo : WholeWordsValue → List ℕ → Span → List MatchValue → ℕ → Type 0
+AreWordsUpTo words haystack = AreWordsUpToBy words haystack haystack
+
+-- the sides that are kept of a text: none if the text is its own sides
+pub record AreSidesOf (text sides : List ℕ) : Type 0 where
+  pub none : length sides ≡ 0 → text ≡ sides_of text
+  pub some : 0 < length sides → sides ≡ sides_of text
+  pub len : length (sides_of text) ≡ length text

@@ -1,9 +1,9 @@
 use Rattle.std.proofs.Common.{◌++◌, ◌∷◌, [], append-nil, arith, refl, subst, sym}
 use Rattle.std.proofs.lemmas.List.{length-append}
 use Rattle.literal_base.specs.Occurs.{between}
-use Rattle.literal_search.specs.PreparedWords.{PreparedWordMatchesValue, words_for}
-use Rattle.literal_search.specs.WholeWords.{AreWholeWords}
-use Rattle.literal_c.specs.Words.{ContinueWords}
+use Rattle.literal_search.specs.PreparedWords.{PreparedWordMatchesBySidesValue, words_for}
+use Rattle.literal_search.specs.WholeWords.{AreWholeWordsBy}
+use Rattle.literal_c.specs.Words.{ContinueWordsBy}
 use Rattle.literal_c.proofs.lemmas.Words.{continue_on, first_by}
 use Rattle.literal_c.proofs.words.count_words.Goals as goal
 
@@ -11,15 +11,18 @@ pub loop-count-init : goal.loop-count-init
 loop-count-init c = record {
   words = grind arith;
   in_haystack = grind arith;
+  sides = grind arith;
   in_span = grind arith;
   few = grind arith;
   inside = grind arith;
   counted = λ search is longest. (
     [],
     λ more rest.
-        subst (λ (m : PreparedWordMatchesValue). AreWholeWords (words_for search c.args.words.now) c.args.haystack.now
-        (between m.at c.args.span.end) more → AreWholeWords (words_for search c.args.words.now) c.args.haystack.now
-        c.args.span more) (sym c.find_iter_in-matches.ensures) (λ all. all) rest,
+        subst (λ (m : PreparedWordMatchesBySidesValue). AreWholeWordsBy (words_for search c.args.words.now)
+        c.args.haystack.now
+        c.args.sides.now (between m.matches.at c.args.span.end) more → AreWholeWordsBy (words_for search
+        c.args.words.now) c.args.haystack.now c.args.sides.now
+        c.args.span more) (sym c.find_iter_in_by_sides-matches.ensures) (λ all. all) rest,
     refl,
   );
 }
@@ -34,6 +37,7 @@ loop-count-preserved c =
     record {
       words = grind arith;
       in_haystack = grind arith;
+      sides = grind arith;
       in_span = grind arith;
       few = grind arith;
       inside = grind arith;
@@ -41,11 +45,13 @@ loop-count-preserved c =
           let words = words_for search c.args.words.now in
           let (done, continue, count) = so_far.counted search is longest in
           let first = rw c.in-Some.is at (first_by c.loop-count.matches c.next_match.new.self c.args.words.now
-          c.args.haystack.now c.args.span c.loop-count.matches.at c.in_ok-next_match.field-0 so_far.words
-          so_far.in_haystack so_far.in_span refl told.prepared search is longest) in (
+          c.args.haystack.now c.args.sides.now c.args.span c.loop-count.matches.matches.at c.in_ok-next_match.field-0
+          so_far.words
+          so_far.in_haystack so_far.sides so_far.in_span refl told.prepared search is longest) in (
             done ++ it ∷ [],
-            subst (ContinueWords words c.args.haystack.now c.args.span (done ++ it ∷ [])) (sym at)
-                (continue_on words c.args.haystack.now c.args.span done c.loop-count.matches.at it continue first),
+            subst (ContinueWordsBy words c.args.haystack.now c.args.sides.now c.args.span (done ++ it ∷ [])) (sym at)
+                (continue_on words c.args.haystack.now c.args.sides.now c.args.span done
+                c.loop-count.matches.matches.at it continue first),
             omega (arith, count, length-append done (it ∷ [])),
           );
     }
@@ -56,9 +62,11 @@ returns-clause-count c = λ search is longest.
     let words = words_for search c.args.words.now in
     let (done, continue, count) = so_far.counted search is longest in
     let none = rw c.in_default.is at (first_by c.loop-count.matches c.next_match.new.self c.args.words.now
-    c.args.haystack.now c.args.span c.loop-count.matches.at c.in_ok-next_match.field-0 so_far.words
-    so_far.in_haystack so_far.in_span refl c.in_ok-next_match.ensures.prepared search is longest) in (
+    c.args.haystack.now c.args.sides.now c.args.span c.loop-count.matches.matches.at c.in_ok-next_match.field-0
+    so_far.words
+    so_far.in_haystack so_far.sides so_far.in_span refl c.in_ok-next_match.ensures.prepared search is longest) in (
       done,
-      subst (AreWholeWords words c.args.haystack.now c.args.span) (append-nil done) (continue [] none),
+      subst (AreWholeWordsBy words c.args.haystack.now c.args.sides.now c.args.span) (append-nil done) (continue []
+          none),
       count,
     )

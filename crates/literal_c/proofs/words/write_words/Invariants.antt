@@ -2,7 +2,7 @@ use Rattle.std.proofs.Common.{◌≡◌, ◌+◌, ◌≤◌, drop, map, slice_in
 use Rattle.std.specs.List.{All}
 use Rattle.literal_search.specs.PreparedWords.{ForWholeWords}
 use Rattle.literal_c.specs.Answers.{MayBeFound, match_of}
-use Rattle.literal_c.specs.Words.{ContinueWords}
+use Rattle.literal_c.specs.Words.{ContinueWordsBy}
 use Rattle.literal_c.proofs.words.write_words.Given as goal
 
 -- the whole words up to the next place are written
@@ -10,14 +10,15 @@ abbrev pub invariant-loop-place : goal.invariant-loop-place
 invariant-loop-place l = record {
   count : l.page.written ≡ l.place-index;
   last : l.page.is_last ≡ 1;
-  words : l.matches.words ≡ l.words;
-  in_haystack : l.matches.haystack ≡ l.haystack;
-  in_span : l.matches.span ≡ l.fn.span;
-  at : l.matches.at ≡ l.page.next;
+  words : l.matches.matches.words ≡ l.words;
+  in_haystack : l.matches.matches.haystack ≡ l.haystack;
+  sides : l.matches.sides ≡ l.sides;
+  in_span : l.matches.matches.span ≡ l.fn.span;
+  at : l.matches.matches.at ≡ l.page.next;
   after : l.fn.span.start + l.place-index ≤ l.page.next;
   before : l.page.next ≤ l.fn.span.end;
   continue : ForWholeWords l.words (λ w.
-      ContinueWords w l.haystack l.fn.span (map match_of (take l.place-index l.found)) l.page.next);
+      ContinueWordsBy w l.haystack l.sides l.fn.span (map match_of (take l.place-index l.found)) l.page.next);
   inside : All (λ found. MayBeFound l.fn.span (slice_index l.words.numbers 3) (match_of found))
       (take l.place-index l.found);
   others : drop l.place-index l.found ≡ drop l.place-index l.fn.found;

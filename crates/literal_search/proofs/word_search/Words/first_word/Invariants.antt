@@ -8,7 +8,7 @@ invariant-loop-found l = record {
   start : l.rest.start ≡ l.fn.span.start;
   ordered : l.rest.start ≤ l.rest.end;
   inside : l.rest.end ≤ l.fn.span.end;
-  first : ForWords l.fn.self (λ parts. IsFirstUpTo parts l.fn.haystack l.fn.span l.rest.end l.first);
+  first : ForWords l.fn.self (λ parts. IsFirstUpTo parts l.fn.haystack l.fn.sides l.fn.span l.rest.end l.first);
   lies : IfSome l.first (IsMatchAtStart l.fn.self l.fn.span);
   scans : ScansEnds l.fn.self.backward.table.longest l.rest.end l.fn.span.end l.fn.tally l.tally;
   least : l.fn.tally.scanned ≤ l.tally.scanned;

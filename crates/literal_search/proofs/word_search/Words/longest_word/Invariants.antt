@@ -9,7 +9,7 @@ invariant-loop-rest l = record {
   start : l.rest.start ≡ l.fn.span.start;
   ordered : l.rest.start ≤ l.rest.end;
   inside : l.rest.end ≤ l.fn.span.end;
-  ends : ForWords l.fn.self (λ parts. (i : ℕ) → IsWordAt parts l.fn.haystack l.fn.span i
+  ends : ForWords l.fn.self (λ parts. (i : ℕ) → IsWordAt parts l.fn.haystack l.fn.sides l.fn.span i
       → l.fn.span.start + length (pattern_at parts.search.query.patterns i) ≤ l.rest.end);
   scans : ScansEnds l.fn.self.backward.table.longest l.rest.end l.fn.span.end l.fn.tally l.tally;
   least : l.fn.tally.scanned ≤ l.tally.scanned;

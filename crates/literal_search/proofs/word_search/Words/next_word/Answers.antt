@@ -34,10 +34,12 @@ returns-in_err-word-clause-most c =
 pub returns-in-Some-2-clause-leftmost : goal.returns-in-Some-2-clause-leftmost
 returns-in-Some-2-clause-leftmost c = λ search is parts.
     let found = c.in-Some.found in
-    best_is_leftmost (word_parts c.args.self.now search) parts c.args.haystack.now c.args.at c.loop-found.starts.at
+    best_is_leftmost (word_parts c.args.self.now search) parts c.args.haystack.now c.args.sides.now c.args.at
+    c.loop-found.starts.at
     c.args.span.end found (rw c.in-Some.is at (c.in_ok-found.ensures.leftmost search is))
     (c.loop-found.invariant.none search is parts) (grind arith) c.in-Some-2.word
-    (subst (λ (s : Span). IsBestWord c.args.self.now.kind (word_parts c.args.self.now search) c.args.haystack.now s
+    (subst (λ (s : Span). IsBestWord c.args.self.now.kind (word_parts c.args.self.now search) c.args.haystack.now
+    c.args.sides.now s
     c.in-Some-2.word) c.span.ensures.span (rw c.in-Some-2.is at (c.in_ok-word.ensures.best search is parts)))
 
 pub returns-in-Some-2-clause-scans : goal.returns-in-Some-2-clause-scans
@@ -99,9 +101,9 @@ loop-found-preserved c =
       none = λ search is parts.
           let leftmost = rw c.in-Some.is at (told.leftmost search is) in
           let best = subst (λ (s : Span). c.args.at ≤ s.start → (i : ℕ)
-          → ¬ IsWordAt (word_parts c.args.self.now search) c.args.haystack.now s i) c.span.ensures.span
+          → ¬ IsWordAt (word_parts c.args.self.now search) c.args.haystack.now c.args.sides.now s i) c.span.ensures.span
           (rw c.in_default-2.is at (c.in_ok-word.ensures.best search is parts)) in
-          rw at (none_further (word_parts c.args.self.now search) parts c.args.haystack.now c.args.at
+          rw at (none_further (word_parts c.args.self.now search) parts c.args.haystack.now c.args.sides.now c.args.at
           c.loop-found.starts.at c.args.span.end found leftmost (so_far.none search is parts) best);
       later = omega (arith, so_far.later, lies.after, at);
       further = omega (arith, so_far.further, told.further);

@@ -3,7 +3,7 @@ use Rattle.literal_base.specs.Occurs.{between}
 use Rattle.literal_search.specs.Inside.WholeWords.{AreKnownStarts, ForWords}
 use Rattle.literal_search.specs.SearchValue.{looked_by}
 use Rattle.literal_search.specs.declared.backward.TheConstants.{LEAST}
-use Rattle.literal_search.specs.WholeWords.{OccursAlone, ScansWordsAtMost}
+use Rattle.literal_search.specs.WholeWords.{OccursAloneBy, ScansWordsAtMost}
 use Rattle.literal_search.proofs.word_search.Words.next_word.Given as goal
 
 -- no whole word begins from the offset on before the offset from which the starts go on
@@ -11,7 +11,7 @@ abbrev pub invariant-loop-found : goal.invariant-loop-found
 invariant-loop-found l = record {
   starts : AreKnownStarts l.fn.self l.fn.haystack l.fn.span l.starts;
   none : ForWords l.fn.self (λ parts. (i k : ℕ) → l.fn.at ≤ k → k < l.starts.at
-      → ¬ OccursAlone parts.search.query.patterns parts.search.ignore_case parts.word_bytes l.fn.haystack
+      → ¬ OccursAloneBy parts.search.query.patterns parts.search.ignore_case parts.word_bytes l.fn.haystack l.fn.sides
       (between l.fn.at l.fn.span.end) i k);
   later : l.fn.starts.at ≤ l.starts.at;
   further : l.fn.starts.marks.known ≤ l.starts.marks.known;

@@ -3,16 +3,18 @@ use Rattle.literal_base.specs.Occurs.{between}
 use Rattle.literal_search.specs.Inside.WholeWords.{WordParts, whole_words_value}
 use Rattle.literal_search.specs.MatchesValue.{offset_at_end}
 use Rattle.literal_search.specs.Prepared.{IsPrepared}
-use Rattle.literal_search.specs.PreparedWords.{PreparedWordMatchesValue, word_matches_by, words_for}
-use Rattle.literal_search.specs.WholeWords.{GivesWholeWord, IsFirstAlone, WholeWordMatchesValue}
+use Rattle.literal_search.specs.PreparedWords.{PreparedWordMatchesBySidesValue, word_matches_by, words_for}
+use Rattle.literal_search.specs.WholeWords.{GivesWholeWordBy, IsFirstAloneBy, WholeWordMatchesValue}
 use Rattle.literal_search.proofs.lemmas.Prepared.{some_by}
 use Rattle.literal_search.proofs.lemmas.WholeWords.{for_prepared}
-use Rattle.literal_search.proofs.prepared_words.PreparedWordMatches.next_counted.Goals as goal
+use Rattle.literal_search.proofs.prepared_words.PreparedWordMatchesBySides.next_counted.Goals as goal
 
 pub returns-in-Ok-clause-prepared : goal.returns-in-Ok-clause-prepared
 returns-in-Ok-clause-prepared c = λ search given longest.
     let m = c.self.inside in
-    let is = subst (λ (v : PreparedWordMatchesValue). IsPrepared search v.words.numbers) (sym c.self.view_is) given in
+    let is = subst (λ (v : PreparedWordMatchesBySidesValue). IsPrepared search v.matches.words.numbers) (sym
+    c.self.view_is)
+    given in
     let told = c.in-Ok.ensures in
     let starts = c.next_word.new.starts in
     let answer = c.in-Ok.answer in
@@ -25,9 +27,10 @@ returns-in-Ok-clause-prepared c = λ search given longest.
       from = from;
       known = starts.marks.known;
     } in v in
-    subst (λ (v : PreparedWordMatchesValue). GivesWholeWord (word_matches_by v (words_for search v.words)) answer
+    subst (λ (v : PreparedWordMatchesBySidesValue). GivesWholeWordBy v.sides
+    (word_matches_by v.matches (words_for search v.matches.words)) answer
     (record {
-      words = words_for search v.words;
+      words = words_for search v.matches.words;
       haystack = m.haystack.now;
       span = m.span;
       at = c.offset_after-self-inside.result;
@@ -35,8 +38,9 @@ returns-in-Ok-clause-prepared c = λ search given longest.
       known = starts.marks.known;
     })) c.self.view_is (record {
       leftmost = for_prepared m.prepared.now m.words c.self.invariant.0 (λ (p : WordParts).
-          IsFirstAlone (whole_words_value p) m.haystack.now (between m.at m.span.end) answer) told.leftmost search is
-          longest;
+          IsFirstAloneBy (whole_words_value p) m.haystack.now m.sides.now (between m.at m.span.end) answer)
+          told.leftmost
+          search is longest;
       not_empty = some_by m.words.backward m.span m.at answer told.lies;
       known = starts.marks.known;
       goes_on = ap (λ at. new_at at starts.at) c.offset_after-self-inside.ensures
@@ -51,5 +55,7 @@ returns-in-Ok-clause-prepared c = λ search given longest.
 pub returns-in-Err-clause-prepared : goal.returns-in-Err-clause-prepared
 returns-in-Err-clause-prepared c = λ search given longest.
     let m = c.self.inside in
-    let is = subst (λ (v : PreparedWordMatchesValue). IsPrepared search v.words.numbers) (sym c.self.view_is) given in
+    let is = subst (λ (v : PreparedWordMatchesBySidesValue). IsPrepared search v.matches.words.numbers) (sym
+    c.self.view_is)
+    given in
     for_prepared m.prepared.now m.words c.self.invariant.0 (λ _. ⊥) c.in-Err.ensures.leftmost search is longest

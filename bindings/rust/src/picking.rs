@@ -1,0 +1,95 @@
+//! Leftmost matches picked from every occurrence, for long patterns whose matches lie close together.
+use crate::occurrences::{Every, FindOverlappingIter};
+use crate::{Input, Match, MatchKind};
+use alloc::collections::VecDeque;
+
+/// The matches of a leftmost kind in an input.
+///
+/// Occurrences come in the order of their ends. So all that begin at an offset are known once the ends are past the
+/// length of the longest pattern after it. If one that begins earlier comes later, it goes past the start of the other,
+/// which then is no match: so the search for the next offset with an occurrence passes over each offset once.
+#[derive(Clone)]
+pub struct Picking<'a, 'h> {
+    all: FindOverlappingIter<'a, 'h>,
+    longest: usize,
+    is_longest: bool,
+    /// Where the match before ends.
+    at: usize,
+    /// The occurrence that the kind prefers at each offset from `base` on, or a match without bytes.
+    best: VecDeque<Match>,
+    base: usize,
+    /// The first offset with an occurrence.
+    first: Option<usize>,
+    /// All occurrences that end up to here are known.
+    known: usize,
+}
+
+impl<'a, 'h> Picking<'a, 'h> {
+    pub fn new(every: Every<'a>, kind: MatchKind, input: &Input<'h>) -> Picking<'a, 'h> {
+        Picking {
+            all: FindOverlappingIter::new(every, input),
+            longest: every.longest,
+            is_longest: kind == MatchKind::LeftmostLongest,
+            at: input.start(),
+            best: VecDeque::new(),
+            base: input.start(),
+            first: None,
+            known: input.start(),
+        }
+    }
+
+    /// Keeps an occurrence, if it is the best one that begins there.
+    fn keep(&mut self, found: Match) {
+        if self.first.is_none() {
+            // (none that comes later begins before this)
+            self.best.clear();
+            self.base = self.at.max(found.end().saturating_sub(self.longest));
+        }
+        let place = found.start() - self.base;
+        if self.best.len() <= place {
+            self.best.resize(place + 1, Match::ZERO);
+        }
+        let best = &mut self.best[place];
+        let is_better = if self.is_longest { found.end() > best.end() } else { found.pattern() < best.pattern() };
+        if best.is_empty() || is_better {
+            *best = found;
+        }
+        self.first = Some(self.first.map_or(found.start(), |it| it.min(found.start())));
+    }
+
+    /// The first match that is kept, if nothing that comes later can change it.
+    fn take(&mut self) -> Option<Match> {
+        let start = self.first?;
+        if self.known - start < self.longest {
+            return None;
+        }
+        let found = self.best[start - self.base];
+        self.best.drain(..self.best.len().min(found.end() - self.base));
+        self.at = found.end();
+        self.base = found.end();
+        self.first = self.best.iter().position(|it| !it.is_empty()).map(|it| self.base + it);
+        Some(found)
+    }
+}
+
+impl Iterator for Picking<'_, '_> {
+    type Item = Match;
+
+    fn next(&mut self) -> Option<Match> {
+        loop {
+            if let Some(found) = self.take() {
+                return Some(found);
+            }
+            match self.all.next() {
+                Some(found) => {
+                    self.known = found.end() - 1;
+                    if found.start() >= self.at {
+                        self.keep(found);
+                    }
+                }
+                None if self.first.is_some() => self.known = usize::MAX,
+                None => return None,
+            }
+        }
+    }
+}

@@ -1,0 +1,190 @@
+-- A text whose matches are rewritten by calls that write what a function of the match gives.
+use Rattle.std.proofs.Common.{◌≡◌, ℕ, ◌+◌, ◌-◌, ◌≤◌, ◌++◌, [], ◌∷◌, ◌∙◌, Err, IfErr, List, Ok, OnOk, Option, Result, ap}
+use Rattle.std.proofs.Common.{append-nil}
+use Rattle.std.proofs.Common.{append_assoc, arith, length, length-append, refl, drop, slice_range, subst, sym, take}
+use Rattle.std.proofs.KnownBytes.{Appends-trans}
+use Rattle.std.specs.Bool.{⊤}
+use Rattle.std.specs.Borrow.{Bor, MutBor}
+use Rattle.std.specs.Io.KnownBytes.{Appends}
+use Rattle.std.specs.List.{FoldsTo}
+use Rattle.std.specs.declared.io.Error.{Error}
+use Rattle.literal_base.specs.Greedy.{IsGreedy}
+use Rattle.literal_base.specs.MatchValue.{MatchValue}
+use Rattle.literal_base.specs.Occurs.{pattern_at}
+use Rattle.literal_search.specs.Replaced.{RewritesAll, RewritesPart, StopsRewriting, replaced_by}
+use Rattle.literal_search.specs.ReplacedStream.{AreRewritten, RewritesAllBy, RewritesMatch, RewritesPartBy}
+use Rattle.literal_search.specs.ReplacedStream.{RewritingValue}
+use Rattle.literal_search.specs.ReplacedStream.{StopsRewritingBy}
+use Rattle.literal_search.specs.SearchValue.{SearchValue}
+use Rattle.literal_search.specs.declared.replace_stream.ReplaceStreamError.{ReplaceStreamError}
+use Rattle.literal_search.specs.declared.replace_stream.ReplaceStreamError.TheVariants.{NotOneForEach, OutOfMemory}
+use Rattle.literal_search.specs.declared.replace_stream.ReplaceStreamError.TheVariants.{ReadFailed, WriteFailed}
+use Rattle.literal_search.proofs.lemmas.Rewritten.{part_longer}
+use Rattle.literal_search.proofs.lemmas.Walk.{slice_halves}
+
+-- a list begins at an offset or later
+abbrev BeginsFrom : ℕ → List MatchValue → Type 0
+BeginsFrom at [] = Unit {0}
+BeginsFrom at (found ∷ more) = at ≤ found.start
+
+-- what begins at a later offset is replaced in the same way from an earlier one on
+replaced_later : (bytes_for : MatchValue → List ℕ) (text : List ℕ) (from to : ℕ) (matches : List MatchValue)
+    → from ≤ to → to ≤ length text → BeginsFrom to matches
+    → slice_range text from to ++ replaced_by bytes_for text to matches ≡ replaced_by bytes_for text from matches
+replaced_later bytes_for text from to [] later within begins =
+    sym (slice_halves text from to (length text) later within)
+replaced_later bytes_for text from to (found ∷ more) later within begins =
+    let rest = bytes_for found ++ replaced_by bytes_for text found.end more in
+    sym (ap (λ l. l ++ rest) (slice_halves text from to found.start later begins)
+    ∙ append_assoc (slice_range text from to) (slice_range text to found.start) rest)
+
+module _ {F W : Type 0} (contents : W → Option (List ℕ))
+    (step : F → MatchValue → Bor (List ℕ) → MutBor W → Result ⊤ Error → MutBor W → F → Type 0)
+    (bytes_for : MatchValue → List ℕ) (holds : F → Type 0)
+    (writes : (f : F) (found : MatchValue) (bytes : Bor (List ℕ)) (before behind : MutBor W) (next : F) → holds f
+    → step f found bytes before (Ok tt) behind next
+    → holds next × Appends (contents before.now) (contents behind.now) (bytes_for found))
+    (text : List ℕ) (at : ℕ) (written : Option (List ℕ))
+  where
+    -- what the calls wrote
+    record AreWritten (first : RewritingValue F) (matches : List MatchValue) : Type 0 where
+      out : List ℕ
+      appended : Appends first.written written out
+      is_replaced : (more : List ℕ) (behind : List MatchValue) → BeginsFrom at behind
+          → out ++ replaced_by bytes_for (text ++ more) at behind
+          ≡ replaced_by bytes_for (text ++ more) first.at (matches ++ behind)
+
+    are_written : (first : RewritingValue F) (matches : List MatchValue) (last : RewritingValue F) → holds first.replace
+        → FoldsTo (RewritesMatch contents step text) first matches last → last.at ≤ at → at ≤ length text
+        → Appends last.written written (slice_range text last.at at) → AreWritten first matches
+    are_written first [] last held stays upto inside rest =
+        let first_is : last ≡ first = sym stays in
+        let (upto_first, rest_first) = subst
+        (λ (v : RewritingValue F). (v.at ≤ at) × Appends v.written written (slice_range text v.at at)) first_is
+        (upto, rest) in
+        record {
+          out = slice_range text first.at at;
+          appended = rest_first;
+          is_replaced = λ more behind begins.
+              ap (λ l. l ++ replaced_by bytes_for (text ++ more) at behind)
+              (sym (part_longer text more first.at at inside upto_first))
+              ∙ replaced_later bytes_for (text ++ more) first.at at behind upto_first
+              (omega (arith, inside, length-append text more)) begins;
+        }
+    are_written first (found ∷ more) last held run upto inside rest =
+        let one = run.1 in
+        let called = writes first.replace found one.bytes one.before one.behind run.0.replace held one.calls in
+        let next = are_written run.0 more last called.0 run.2 upto inside rest in
+        let between = slice_range text first.at found.start in
+        let some = one.some in
+        record {
+          out = between ++ (bytes_for found ++ next.out);
+          appended = Appends-trans first.written (contents one.before.now) written between (bytes_for found ++ next.out)
+              one.between
+              (Appends-trans (contents one.before.now) (contents one.behind.now) written (bytes_for found) next.out
+              called.1 (subst (λ (o : Option (List ℕ)). Appends o written next.out) one.leaves next.appended));
+          is_replaced = λ behind after begins.
+              let whole = text ++ behind in
+              let last_part = replaced_by bytes_for whole at after in
+              append_assoc between (bytes_for found ++ next.out) last_part
+              ∙ (ap (λ l. between ++ l) (append_assoc (bytes_for found) next.out last_part)
+              ∙ (ap (λ l. between ++ (bytes_for found ++ l))
+              (next.is_replaced behind after begins
+              ∙ ap (λ n. replaced_by bytes_for whole n (more ++ after)) one.goes_on)
+              ∙ ap (λ l. l ++ (bytes_for found ++ replaced_by bytes_for whole found.end (more ++ after)))
+              (sym (part_longer text behind first.at found.start (omega (arith, one.inside)) one.after))));
+        }
+
+begins_from : (search : SearchValue) (text : List ℕ) (at : ℕ) (matches : List MatchValue)
+    → IsGreedy search.query search.ignore_case text at matches → BeginsFrom at matches
+begins_from search text at [] greedy = tt
+begins_from search text at (found ∷ more) greedy = greedy.0.occurs.after_start
+
+module _ {F W : Type 0} (contents : W → Option (List ℕ))
+    (step : F → MatchValue → Bor (List ℕ) → MutBor W → Result ⊤ Error → MutBor W → F → Type 0)
+    (replacements : List (List ℕ)) (holds : F → Type 0)
+    (writes : (f : F) (found : MatchValue) (bytes : Bor (List ℕ)) (before behind : MutBor W) (next : F) → holds f
+    → step f found bytes before (Ok tt) behind next
+    → holds next × Appends (contents before.now) (contents behind.now) (pattern_at replacements found.pattern))
+    (search : SearchValue) (one_for_each : length replacements ≡ length search.query.patterns) (replace : F)
+    (held_first : holds replace) (unread left held written : Option (List ℕ))
+  where
+    abbrev replacement : MatchValue → List ℕ
+    replacement found = pattern_at replacements found.pattern
+
+    -- calls that write the replacement of the match's pattern replace each match
+    pub all_replaced : RewritesAllBy contents step search replace unread left held written
+        → RewritesAll search replacements unread left held written
+    all_replaced all =
+        let done = all.are_rewritten in
+        let made = are_written contents step replacement holds writes all.text (length all.text) written _ all.matches
+        done.last held_first done.calls done.upto done.inside done.rest in
+        record {
+          text = all.text;
+          answer = made.out;
+          reads = all.reads;
+          end = all.end;
+          is_replaced = record {
+            one_for_each = one_for_each;
+            matches = all.matches;
+            are_greedy = all.are_greedy;
+            is_replaced = whole all.text all.matches made.out (made.is_replaced [] [] tt);
+          };
+          writes = made.appended;
+        }
+      where
+        whole : (text : List ℕ) (matches : List MatchValue) (out : List ℕ)
+            → out ++ replaced_by replacement (text ++ []) (length text) []
+            ≡ replaced_by replacement (text ++ []) 0 (matches ++ []) → out ≡ replaced_by replacement text 0 matches
+        whole text matches out is =
+            let none : length text - length text ≡ 0 = omega arith in
+            let here = subst (λ (t : List ℕ). out ++ replaced_by replacement t (length text) []
+            ≡ replaced_by replacement t 0 (matches ++ [])) (append-nil text) is in
+            let empty : slice_range text (length text) (length text) ≡ [] = ap (λ n. take n (drop (length text) text))
+            none in
+            sym (append-nil out) ∙ (ap (λ l. out ++ l) (sym empty)
+            ∙ (here ∙ ap (replaced_by replacement text 0) (append-nil matches)))
+
+    pub part_replaced : RewritesPartBy contents step search replace unread left held written
+        → RewritesPart search replacements unread left held written
+    part_replaced part =
+        let done = part.are_rewritten in
+        let made = are_written contents step replacement holds writes part.text part.at written _ part.matches done.last
+        held_first done.calls done.upto done.inside done.rest in
+        record {
+          text = part.text;
+          answer = made.out;
+          at = part.at;
+          reads = part.reads;
+          far = part.far;
+          is_replaced = record {
+            within = done.inside;
+            goes_on = λ more behind greedy. (
+              part.matches ++ behind,
+              part.come_first more behind greedy,
+              made.is_replaced more behind (begins_from search (part.text ++ more) part.at behind greedy),
+            );
+          };
+          writes = made.appended;
+        }
+
+    -- and the errors are the same
+    pub stops_replacing : (error : ReplaceStreamError)
+        → StopsRewritingBy contents step search replace unread left held written error
+        → StopsRewriting search replacements unread left held written error
+    stops_replacing NotOneForEach stops = absurd stops
+    stops_replacing OutOfMemory stops = (one_for_each, stops.0, stops.1)
+    stops_replacing (ReadFailed error) stops = (one_for_each, part_replaced stops)
+    stops_replacing (WriteFailed error) stops = (one_for_each, stops)
+
+    pub replaces_each : {A : Type 0} (result : Result A ReplaceStreamError)
+        → OnOk result (RewritesAllBy contents step search replace unread left held written)
+        → OnOk result (RewritesAll search replacements unread left held written)
+    replaces_each (Ok done) all = all_replaced all
+    replaces_each (Err error) all = all
+
+    pub stops_each : {A : Type 0} (result : Result A ReplaceStreamError)
+        → IfErr result (StopsRewritingBy contents step search replace unread left held written)
+        → IfErr result (StopsRewriting search replacements unread left held written)
+    stops_each (Ok done) stops = stops
+    stops_each (Err error) stops = stops_replacing error stops

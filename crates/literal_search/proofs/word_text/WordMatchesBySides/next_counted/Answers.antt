@@ -1,0 +1,44 @@
+use Rattle.std.proofs.Common.{◌∙◌, ap, arith, refl, subst, ℕ}
+use Rattle.literal_base.specs.Occurs.{between}
+use Rattle.literal_search.specs.Inside.WholeWords.{WordParts, owned_parts, whole_words_value}
+use Rattle.literal_search.specs.MatchesValue.{offset_at_end}
+use Rattle.literal_search.specs.WholeWords.{GivesWordBySides, IsFirstAloneBy, WholeWordMatchesValue}
+use Rattle.literal_search.specs.WholeWords.{WordMatchesBySidesValue}
+use Rattle.literal_search.proofs.lemmas.Prepared.{some_by}
+use Rattle.literal_search.proofs.lemmas.WholeWords.{for_words}
+use Rattle.literal_search.proofs.word_text.WordMatchesBySides.next_counted.Goals as goal
+
+pub returns-clause-gives : goal.returns-clause-gives
+returns-clause-gives c =
+    let m = c.self.inside in
+    let told = c.in-Ok.ensures in
+    let starts = c.next_word-next.new.starts in
+    let parts = owned_parts m.parts.now in
+    let answer = c.in-Ok.answer in
+    let new_at = λ (at from : ℕ). let v : WholeWordMatchesValue = record {
+      words = whole_words_value parts;
+      haystack = m.haystack.now;
+      span = m.span;
+      at = at;
+      from = from;
+      known = starts.marks.known;
+    } in v in
+    subst (λ (v : WordMatchesBySidesValue). GivesWordBySides v answer
+    (record { matches = new_at c.offset_after-self-inside.result starts.at; sides = m.sides.now }))
+    c.self.view_is (record {
+      gives = record {
+        leftmost = for_words parts m.words c.self.invariant.1 c.self.invariant.0 (λ (p : WordParts).
+            IsFirstAloneBy (whole_words_value p) m.haystack.now m.sides.now (between m.at m.span.end) answer)
+            told.leftmost;
+        not_empty = some_by m.words.backward m.span m.at answer told.lies;
+        known = starts.marks.known;
+        goes_on = ap (λ at. new_at at starts.at) c.offset_after-self-inside.ensures
+            ∙ ap (λ from. new_at (offset_at_end m.span answer) from) told.at;
+        looks = record {
+          further = told.further;
+          inside = told.starts.known;
+          looked = omega (arith, told.starts.looked, c.self.invariant.1.is_for.tables.longest);
+        };
+      };
+      same = refl;
+    })

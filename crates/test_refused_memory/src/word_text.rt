@@ -1,0 +1,54 @@
+//! Calls for whole words in a `WordText`.
+use crate::made::{assert_place, words_with_a_table};
+use literal_search::{BuildError, MatchKind, WholeWords, WordText};
+use std::alloc::{AllocError, Global};
+use std::process::Abort;
+
+/// A search for 24 patterns as whole words.
+fn build(alloc: Global) -> Result<WholeWords, BuildError> {
+    let set = WholeWords::ascii_word_bytes();
+    WholeWords::new(
+        alloc,
+        MatchKind::LeftmostFirst,
+        false,
+        set,
+        words_with_a_table(),
+    )
+}
+
+/// A text in which a letter is right before the first occurrence of the second pattern.
+const TEXT: &str = "éaxe axe";
+
+/// It finds the second occurrence.
+fn assert_finds(rt: &impl Abort, search: &WholeWords, text: &WordText<'_>) {
+    assert_place(rt, search.find_text(text), 1, (6, 9));
+}
+
+#[test]
+fn new_of_a_word_text(rt: HostRuntime) -> Result<(), AllocError> {
+    let search = build(rt.alloc()).or(Err(AllocError))?;
+    let text = match WordText::new(rt.alloc(), TEXT) {
+        Ok(text) => text,
+        Err(_) => WordText::new(rt.alloc(), TEXT).expect(&rt, "it was refused again"),
+    };
+    assert_finds(&rt, &search, &text);
+    Ok(())
+}
+
+#[test]
+fn find_text_all_of_a_word_text(rt: HostRuntime) -> Result<(), AllocError> {
+    let search = build(rt.alloc()).or(Err(AllocError))?;
+    let text = WordText::new(rt.alloc(), TEXT)?;
+    let all = match search.find_text_all(&text) {
+        Ok(all) => all,
+        Err(_) => {
+            assert_finds(&rt, &search, &text);
+            search
+                .find_text_all(&text)
+                .expect(&rt, "it was refused again")
+        }
+    };
+    assert_place(&rt, all.first().copied(), 1, (6, 9));
+    assert!(rt; all.len() == 1);
+    Ok(())
+}
