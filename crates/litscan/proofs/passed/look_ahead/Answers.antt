@@ -1,4 +1,3 @@
-use Rattle.std.proofs.Common.{arith}
 use Rattle.litscan.proofs.lemmas.Passing.{ahead_of_front}
 use Rattle.litscan.proofs.passed.look_ahead.Goals as goal
 
