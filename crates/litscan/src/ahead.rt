@@ -22,7 +22,7 @@ pub struct Ahead {
     pub bytes: usize,
     /// How many of them are selected.
     pub count: u64,
-    /// Whether the last one has a match. If not, no whole line after them is known to have one.
+    /// Whether the last one has a match. No contract depends on it.
     pub found: bool,
 }
 
@@ -42,13 +42,14 @@ impl Ahead {
 
 /// Handles the lines before the first match in buffered bytes, which begin at this offset after so many lines, and the
 /// line of that match if it is there as a whole. Handles none if the offset after the bytes reaches 2^64. With `-v` the
-/// lines before the match are printed at once.
+/// lines before the match are printed at once. `far` says whether it looks at more than the first line.
 pub fn take_buffered<W: Write>(
     search: &Search,
     options: Options,
     name: &[u8],
     lines: u64,
     offset: u64,
+    far: bool,
     bytes: &[u8],
     writer: &mut Device<W>,
 ) -> Result<Ahead, Fault>
@@ -63,7 +64,7 @@ pub fn take_buffered<W: Write>(
     let Some(_) = offsets_behind(offset, 0, bytes) else {
         return Ok(Ahead::none());
     };
-    let passed = look_ahead(options.line_end, search, bytes);
+    let passed = look_ahead(options.line_end, search, far, bytes);
     let others = take_others(options, passed.lines, &bytes[..passed.bytes], writer)?;
     let Some(len) = passed.next else {
         return Ok(Ahead {

@@ -109,7 +109,7 @@ impl<R: BufRead> Device<R> {
 
     /// Handles the lines of the buffered bytes before the first match and, if it is buffered as a whole, the line of
     /// that match. The bytes begin at this offset of the text, after so many lines. With `-v` the lines before the
-    /// match are printed.
+    /// match are printed. `far` says whether it looks at more than the first line.
     pub fn take_lines<W: Write>(
         &mut self,
         search: &Search,
@@ -117,6 +117,7 @@ impl<R: BufRead> Device<R> {
         name: &[u8],
         lines: u64,
         offset: u64,
+        far: bool,
         writer: &mut Device<W>,
     ) -> Result<Ahead, Fault>
         requires longest { search.now.query.kind ≡ LeftmostLongest }
@@ -131,7 +132,7 @@ impl<R: BufRead> Device<R> {
         ensures error { IfErr result (StopsRead self.new.failure writer.new.failure) }
     {
         let taken = match self.inner.fill_buf() {
-            Ok(bytes) => take_buffered(search, options, name, lines, offset, bytes, writer),
+            Ok(bytes) => take_buffered(search, options, name, lines, offset, far, bytes, writer),
             Err(error) => return self.after_fill(error),
         };
         let ahead = taken?;

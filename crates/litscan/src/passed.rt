@@ -2,7 +2,7 @@
 ghost use Rattle.std.specs.Prelude.{◌≡◌, ◌⊎◌, ◌≢◌, ◌+◌, ◌-◌, ◌<◌, ◌≤◌, ◌==◌, ◌^◌, None, ℕ, MatchOption, ⊤};
 ghost use Rattle.std.specs.Prelude.{length, slice_index};
 ghost use Rattle.std.specs.List.{count_by};
-ghost use Rattle.litscan.specs.Inside.Passed.{IsAhead, LiesInLine, len_of};
+ghost use Rattle.litscan.specs.Inside.Passed.{IsAhead, LiesInLine};
 
 use literal_search::{Match, Search};
 use std::simd::prelude::*;
@@ -25,21 +25,20 @@ pub struct Passed {
     pub next: Option<usize>,
 }
 
-impl Passed {
-    /// The length of these lines in bytes, with the next one and its end.
-    pub fn len(&self) -> usize
-        requires { len_of self.now < 2 ^ 64 }
-        ensures { result ≡ len_of self.now }
-    {
-        match self.next {
-            Some(len) => self.bytes + len + 1,
-            None => self.bytes,
-        }
+/// The lines before the first match in buffered bytes, and the line of that match if it is there as a whole. It looks
+/// at all the bytes (`far`), or only at the first line.
+pub fn look_ahead(line_end: u8, search: &Search, far: bool, bytes: &[u8]) -> Passed
+    ensures { IsAhead line_end search.now bytes.now result }
+{
+    if far {
+        return look_over(line_end, search, bytes);
     }
+    let end = bytes.len().min(first_end(line_end, bytes, 0) + 1);
+    look_over(line_end, search, &bytes[..end])
 }
 
-/// The lines before the first match in buffered bytes, and the line of that match if it is there as a whole.
-pub fn look_ahead(line_end: u8, search: &Search, bytes: &[u8]) -> Passed
+/// The same at all the bytes.
+fn look_over(line_end: u8, search: &Search, bytes: &[u8]) -> Passed
     ensures { IsAhead line_end search.now bytes.now result }
 {
     let Some(found) = search.find(bytes) else {

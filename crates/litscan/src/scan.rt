@@ -28,6 +28,12 @@ use literal_search::Search;
 use std::alloc::Global;
 use std::io::{BufRead, ErrorKind, Write};
 
+/// Words longer than this are long.
+const SHORT: usize = 16;
+
+/// After this many lines in a row, with the last one, without another match, a scan looks at all buffered lines.
+const LONG: usize = 3;
+
 /// The result of a scan of a text.
 #[derive(Clone, Copy)]
 pub struct Scanned {
@@ -157,18 +163,21 @@ fn scan_lines<R: BufRead + ReadsAhead, W: Write>(
 {
     let mut line = Vec::new(alloc);
     let (mut count, mut lines, mut offset) = (0, 0, 0);
+    let mut gap = Gap::new(search);
     loop {
         if is_enough(options.limit(), count) {
             return Ok(Scanned::whole(count));
         }
-        let ahead = match take_ahead(search, options, name, lines, offset, reader, writer) {
+        let far = gap.is_long();
+        let ahead = match take_ahead(search, options, name, lines, offset, far, reader, writer) {
             Ok(ahead) => ahead,
             Err(fault) => return failed_behind(count, fault, reader.failure()),
         };
         count += ahead.count;
         lines += ahead.lines as u64;
         offset += ahead.bytes as u64;
-        if ahead.found {
+        gap = gap.with(ahead.lines, ahead.found);
+        if ahead.bytes > 0 {
             continue;
         }
         let fed = match read_line(options, reader, &mut line, writer) {
@@ -180,7 +189,9 @@ fn scan_lines<R: BufRead + ReadsAhead, W: Write>(
             return Ok(Scanned::too_large(count));
         };
         lines += 1;
-        count += take_read(fed, search, options, name, lines, start, line, writer)?;
+        let taken = take_read(fed, search, options, name, lines, start, line, writer)?;
+        count += taken;
+        gap = gap.with(1, (taken > 0) != options.others);
         if !fed {
             return Ok(Scanned::whole(count));
         }
@@ -188,14 +199,53 @@ fn scan_lines<R: BufRead + ReadsAhead, W: Write>(
     }
 }
 
-/// Handles whole lines of the buffered bytes, up to the first one with a match; none with `-v` and a limit, or if
-/// anything is printed before lines.
+/// How many lines lie between those with a match, the last time and now. Where words are long, a look at many lines for
+/// a match in the next one costs much more than a look at that line.
+#[derive(Clone, Copy)]
+struct Gap {
+    now: usize,
+    before: usize,
+    has_long_words: bool,
+}
+
+impl Gap {
+    /// The gap at the start of a text. It is long, so the scan begins by looking far.
+    fn new(search: &Search) -> Gap {
+        Gap {
+            now: LONG,
+            before: 0,
+            has_long_words: search.max_pattern_len() > SHORT,
+        }
+    }
+
+    /// The gap after so many lines more, of which the last one has a match or not.
+    fn with(self, lines: usize, found: bool) -> Gap {
+        let now = self.now.saturating_add(lines);
+        if found {
+            return Gap {
+                now: 0,
+                before: now,
+                ..self
+            };
+        }
+        Gap { now, ..self }
+    }
+
+    /// Whether looking at all buffered lines is likely to be faster than looking at the next one.
+    fn is_long(self) -> bool {
+        !self.has_long_words || self.now.max(self.before) >= LONG
+    }
+}
+
+/// Handles whole lines of the buffered bytes, up to the first one with a match, or only the first line. With `-v` it
+/// handles none if there is a limit, or if anything is printed before lines.
 fn take_ahead<R: BufRead + ReadsAhead, W: Write>(
     search: &Search,
     options: Options,
     name: &[u8],
     lines: u64,
     offset: u64,
+    far: bool,
     reader: &mut Device<R>,
     writer: &mut Device<W>,
 ) -> Result<Ahead, Fault>
@@ -213,7 +263,7 @@ fn take_ahead<R: BufRead + ReadsAhead, W: Write>(
         return Ok(Ahead::none());
     }
     flush_before_wait(options.line_end, reader, writer)?;
-    reader.take_lines(search, options, name, lines, offset, writer)
+    reader.take_lines(search, options, name, lines, offset, far, writer)
 }
 
 /// Whether lines without a word may be handled together: none is selected, or all are printed as they are.

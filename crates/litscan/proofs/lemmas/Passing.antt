@@ -7,8 +7,8 @@ use Rattle.std.proofs.Common.{append-nil, append_assoc, ap, arith, cond, drop, i
 use Rattle.std.proofs.Common.{slice_range, subst, sym, take, ◌∙◌}
 use Rattle.std.proofs.lemmas.Bool.{cond-false, cond-true, eq-eqb, ne_eqb}
 use Rattle.std.proofs.lemmas.List.{drop-append-le, flat_map_more, get_or-append-add, get_or-drop}
-use Rattle.std.proofs.lemmas.List.{get_or-take, get_or_default, length-drop, length-take-le, length_push, take_more}
-use Rattle.std.proofs.lemmas.List.{drop-take, take_all, take-take}
+use Rattle.std.proofs.lemmas.List.{get_or-take, get_or_default, length-drop, length-take, length-take-le, length_push, take_more}
+use Rattle.std.proofs.lemmas.List.{drop-take, take-take}
 use Rattle.std.proofs.lemmas.List.{take-append-le}
 use Rattle.std.proofs.lemmas.List.Elements.{All-append, All-cons, All-head, All-nil, All-push, All-tail}
 use Rattle.std.proofs.lemmas.List.Sums.{count_by-le-length, sum_by-append, sum_by-cons, sum_by-take-le}
@@ -32,7 +32,7 @@ use Rattle.std.specs.Option.{IfSome, IsSome, OnSome}
 use Rattle.std.specs.declared.io.ErrorKind.{ErrorKind}
 use Rattle.litscan.proofs.lemmas.Lines.{Other, lines_are, lines_of-feeds, lines_of-split}
 use Rattle.litscan.proofs.lemmas.Others.{others_counted, others_printed}
-use Rattle.litscan.proofs.lemmas.Printing.{count-append, length-feeds_push, prints_more, prints_none}
+use Rattle.litscan.proofs.lemmas.Printing.{count-append, length-feeds, length-feeds_push, prints_more, prints_none}
 use Rattle.litscan.proofs.lemmas.Reading.{length-feeds_most, length-lines_read, read_all, read_more, reads_any}
 use Rattle.litscan.proofs.lemmas.Reading.{reads_front, stops_later}
 
@@ -298,6 +298,29 @@ stops_behind limit test seen more count counted before behind n below =
           ∙ ap (λ m. is_enough limit m) both ∙ behind k inside
     ]
 
+-- where no byte was handled no line was
+pub none_counted : {search : SearchValue} {options : Options} {name : List ℕ} {lines offset : ℕ} {ahead : Ahead}
+    {text : List ℕ} {written now : Option (List ℕ)}
+    → TakesLines search options name lines offset ahead text written now → ahead.bytes ≡ 0 → ahead.count ≡ 0
+none_counted {search} {options} takes none =
+    takes.counted ∙ by takes.taken (omega (arith, none, takes.bytes_are, ap (λ (l : List ℕ). length l) takes.text_is))
+  where
+    by : (taken : List (List ℕ)) → length (flat_map (with_end options.line_end) taken) ≡ 0
+        → count_by (counts search options) taken ≡ 0
+    by [] is = refl
+    by (line ∷ more) is = absurd (omega (arith, is, length-feeds options.line_end line more))
+
+-- the front of a list looks as the list does
+pub ahead_of_front : (line_end : ℕ) (search : SearchValue) (n : ℕ) (bytes : List ℕ) (passed : Passed)
+    → IsAhead line_end search (take n bytes) passed → IsAhead line_end search bytes passed
+ahead_of_front line_end search n bytes passed ahead =
+    let front = length-take n bytes in
+    let within : len_of passed ≤ n = omega (arith, ahead.2, front) in (
+      ahead.0,
+      subst (Takes line_end search passed ahead.0) (take-take (len_of passed) n bytes within) ahead.1,
+      omega (arith, ahead.2, front),
+    )
+
 -- none was handled
 pub nothing_taken : (search : SearchValue) (options : Options) (name : List ℕ) (lines offset : ℕ)
     (written : Option (List ℕ)) → offset < 2 ^ 64
@@ -310,13 +333,11 @@ nothing_taken search options name lines offset written small = record {
   lines_are = refl;
   bytes_are = refl;
   small = omega (arith, small);
-  some = λ found. absurd (cc);
   counted = refl;
   stops = λ n before not_yet below. absurd (omega (arith, below));
   out = [];
   writes = Appends-nil written;
   printed = prints_none search options name (is_silent options) (lines + 1) offset;
-  not_enough = λ found before not_yet. stops_nowhere (limit_of options) before 0 refl not_yet;
 }
 
 len_more : (bytes : ℕ) (next : Option ℕ) → bytes ≤ len_with bytes next
@@ -403,17 +424,11 @@ module _ (search : SearchValue) (options : Options) (name : List ℕ) (lines off
           lines_are = takes.count;
           bytes_are = takes.bytes ∙ ap (λ (l : List ℕ). length l) (sym text_is);
           small = omega (arith, small, inside);
-          some = λ found. absurd (cc);
           counted = counted;
           stops = λ n before not_yet below. stops_front takes n before not_yet;
           out = cond (prints_others options) (take passed.bytes bytes) [];
           writes = writes;
           printed = printed_front_lines takes (take passed.bytes bytes) text_is;
-          not_enough = λ found before not_yet.
-              let all = take_all (length takes.lines) takes.lines (omega arith) in
-              ap (λ n. is_enough (limit_of options) (before + n))
-              (counted ∙ ap (count_by (counts search options)) (sym all))
-              ∙ stops_front takes (length takes.lines) before not_yet;
         }
 
     -- and the line behind them, of which this was printed
@@ -446,7 +461,6 @@ module _ (search : SearchValue) (options : Options) (name : List ℕ) (lines off
           lines_are = omega (arith, takes.count, length_push front line);
           bytes_are = omega (arith, takes.bytes, word.0, size, ap (λ (l : List ℕ). length l) text_is);
           small = small;
-          some = λ found. omega arith;
           counted = count-append (counts search options) front (line ∷ []) others count
               (counted_front takes others others_are) counted;
           stops = λ n before not_yet below.
@@ -458,7 +472,6 @@ module _ (search : SearchValue) (options : Options) (name : List ℕ) (lines off
           printed = prints_more search options name (is_silent options) (lines + 1) offset number start front
               (line ∷ []) shown out (omega (arith, number_is, takes.count)) (omega (arith, start_is, takes.bytes))
               (printed_front_lines takes (take passed.bytes bytes) (front_of takes)) printed;
-          not_enough = λ found. absurd (cc);
         }
 
 -- a scan has read these lines and printed this of them: so many count, so many they are, and so many bytes they have

@@ -85,12 +85,9 @@ pub record TakesLines (search : SearchValue) (options : Options) (name : List �
   pub lines_are : ahead.lines ≡ length taken
   pub bytes_are : ahead.bytes ≡ length text
   pub small : offset + ahead.bytes < 2 ^ 64
-  pub some : ahead.found ≡ true → 0 < ahead.bytes
   pub counted : ahead.count ≡ count_by (counts search options) taken
   pub stops : (n before : ℕ) → is_enough (limit_of options) before ≡ false → n < length taken
       → is_enough (limit_of options) (before + count_by (counts search options) (take n taken)) ≡ false
   pub out : List ℕ
   pub writes : Appends written now out
   pub printed : PrintsUnlessSilent (is_silent options) search options name (lines + 1) offset taken out
-  pub not_enough : ahead.found ≡ false → (before : ℕ) → is_enough (limit_of options) before ≡ false
-      → is_enough (limit_of options) (before + ahead.count) ≡ false

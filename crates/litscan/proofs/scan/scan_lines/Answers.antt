@@ -10,7 +10,8 @@ use Rattle.litscan.specs.Inside.Passed.{lines_read}
 use Rattle.litscan.specs.Options.{is_enough, is_silent, limit_of}
 use Rattle.litscan.specs.Printed.{CannotRead, PrintsUnlessSilent, ReadsTooMany, counts}
 use Rattle.litscan.specs.declared.options.Options.{Options}
-use Rattle.litscan.proofs.lemmas.Passing.{Answers, ended_so_far, failed_so_far, few_so_far, kept_so_far, read_on}
+use Rattle.litscan.proofs.lemmas.Passing.{Answers, ended_so_far, failed_so_far, few_so_far, kept_so_far, none_counted}
+use Rattle.litscan.proofs.lemmas.Passing.{read_on}
 use Rattle.litscan.proofs.lemmas.Passing.{scanned_so_far, taken_on}
 use Rattle.litscan.proofs.lemmas.Printing.{prints_none}
 use Rattle.litscan.proofs.lemmas.Reading.{begins_with, ok_gives, read_failed_if, reads_enough}
@@ -21,6 +22,13 @@ use Rattle.litscan.proofs.scan.scan_lines.Goals as goal
 not_yet : (options : Options) (count : ℕ) {limit : Option ℕ} {said : Bool} → said ≡ is_enough limit count
     → limit ≡ limit_of options → said ≡ false → is_enough (limit_of options) count ≡ false
 not_yet options count is same unsaid = ap (λ l. is_enough l count) (sym same) ∙ sym is ∙ unsaid
+
+-- nor are they with no more
+still_not : (options : Options) (count more : ℕ) → more ≡ 0 → is_enough (limit_of options) count ≡ false
+    → is_enough (limit_of options) (count + more) ≡ false
+still_not options count more none before =
+    let same : count + more ≡ count = omega (arith, none) in
+    ap (λ n. is_enough (limit_of options) n) same ∙ before
 
 pub loop-options-init : goal.loop-options-init
 loop-options-init g c = record {
@@ -74,12 +82,12 @@ overflow_add-lines g c =
 pub overflow_add-offset : goal.overflow_add-offset
 overflow_add-offset g c = omega (arith, c.in-Ok.ensures.takes.2.small)
 
-pub loop-options-smaller-then-ahead : goal.loop-options-smaller-then-ahead
-loop-options-smaller-then-ahead g c =
-    omega (arith, c.in-Ok.ensures.takes.2.small, c.in-Ok.ensures.takes.2.some c.if-ahead.true)
+pub loop-options-smaller-then-ahead-gt0 : goal.loop-options-smaller-then-ahead-gt0
+loop-options-smaller-then-ahead-gt0 g c =
+    omega (arith, c.in-Ok.ensures.takes.2.small, c.if-ahead-gt0.true)
 
-pub loop-options-preserved-then-ahead : goal.loop-options-preserved-then-ahead
-loop-options-preserved-then-ahead g c =
+pub loop-options-preserved-then-ahead-gt0 : goal.loop-options-preserved-then-ahead-gt0
+loop-options-preserved-then-ahead-gt0 g c =
     let no = not_yet c.args.options c.loop-options.count c.is_enough.ensures c.limit.ensures c.if-is_enough.false in
     let takes = c.in-Ok.ensures.takes in
     record {
@@ -141,7 +149,7 @@ overflow_add-count-in-loop-options g c =
       arith,
       few_so_far (taken_on c.loop-options.invariant.so_far no takes.1 takes.2),
       c.in-Some.ensures,
-      c.in_ok-count.ensures.few,
+      c.in_ok-taken.ensures.few,
     )
 
 pub returns-then-not-fed-clause-scanned : goal.returns-then-not-fed-clause-scanned
@@ -150,20 +158,21 @@ returns-then-not-fed-clause-scanned g c =
     let takes = c.in-Ok.ensures.takes in
     let here = kept_so_far (taken_on c.loop-options.invariant.so_far no takes.1 takes.2) _
     c.in-Ok-read_line.ensures.kept in
-    let still = takes.2.not_enough c.if-ahead.false c.loop-options.count no in
+    let still = still_not c.args.options c.loop-options.count _ (none_counted takes.2 (omega (arith, c.if-ahead-gt0.false)))
+    no in
     let fed = c.in-Ok-read_line.fed in
     let line = c.read_line.new.line.items in
-    let taken = c.in_ok-count.ensures.printed in
+    let taken = c.in_ok-taken.ensures.printed in
     let shown = c.as_slice-line.ensures.value in
     let number = c.loop-options.lines + c.in-Ok.ahead.lines + 1 in
     let prints = PrintsUnlessSilent (is_silent c.args.options) c.args.search.now c.args.options c.args.name.now number
     c.in-Some.start in
     subst (Answers c.args.search.now c.args.options c.args.name.now _ _ _ _) (sym c.whole-then-not-fed.ensures)
-    (ended_so_far here still _ _ line taken.0 fed number c.in-Some.start c.in_ok-count.field-0
+    (ended_so_far here still _ _ line taken.0 fed number c.in-Some.start c.in_ok-taken.taken
     c.if-not-fed.true refl (omega (arith, c.in-Some.ensures)) c.in-Ok-read_line.ensures.whole
     c.in-Ok-read_line.ensures.bytes c.in-Ok-read_line.ensures.ended taken.1
     (subst (λ l. prints (lines_read fed l) taken.0) shown taken.2)
-    (c.in_ok-count.ensures.counted
+    (c.in_ok-taken.ensures.counted
     ∙ ap (λ l. count_by (counts c.args.search.now c.args.options) (lines_read fed l)) shown))
 
 pub loop-options-preserved : goal.loop-options-preserved
@@ -172,10 +181,11 @@ loop-options-preserved g c =
     let takes = c.in-Ok.ensures.takes in
     let here = kept_so_far (taken_on c.loop-options.invariant.so_far no takes.1 takes.2) _
     c.in-Ok-read_line.ensures.kept in
-    let still = takes.2.not_enough c.if-ahead.false c.loop-options.count no in
+    let still = still_not c.args.options c.loop-options.count _ (none_counted takes.2 (omega (arith, c.if-ahead-gt0.false)))
+    no in
     let fed = c.in-Ok-read_line.fed in
     let line = c.read_line.new.line.items in
-    let taken = c.in_ok-count.ensures.printed in
+    let taken = c.in_ok-taken.ensures.printed in
     let shown = c.as_slice-line.ensures.value in
     let number = c.loop-options.lines + c.in-Ok.ahead.lines + 1 in
     let prints = PrintsUnlessSilent (is_silent c.args.options) c.args.search.now c.args.options c.args.name.now number
@@ -183,11 +193,11 @@ loop-options-preserved g c =
     record {
       seen = (c.loop-options.invariant.seen ++ takes.2.taken) ++ line ∷ [];
       out = (c.loop-options.invariant.out ++ takes.2.out) ++ taken.0;
-      so_far = read_on here still line taken.0 fed number c.in-Some.start c.in-Some.end c.in_ok-count.field-0
+      so_far = read_on here still line taken.0 fed number c.in-Some.start c.in-Some.end c.in_ok-taken.taken
           c.if-not-fed.false refl (omega (arith, c.in-Some.ensures))
           (omega (arith, c.in-Some.ensures, c.as_slice-line.ensures.len)) c.in-Ok-read_line.ensures.whole
           c.in-Ok-read_line.ensures.bytes taken.1 (subst (λ l. prints (lines_read fed l) taken.0) shown taken.2)
-          (c.in_ok-count.ensures.counted
+          (c.in_ok-taken.ensures.counted
           ∙ ap (λ l. count_by (counts c.args.search.now c.args.options) (lines_read fed l)) shown);
       small = omega (arith, c.in-Some.ensures);
     }
