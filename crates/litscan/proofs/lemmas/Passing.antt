@@ -7,7 +7,8 @@ use Rattle.std.proofs.Common.{append-nil, append_assoc, ap, arith, cond, drop, i
 use Rattle.std.proofs.Common.{slice_range, subst, sym, take, ◌∙◌}
 use Rattle.std.proofs.lemmas.Bool.{cond-false, cond-true, eq-eqb, ne_eqb}
 use Rattle.std.proofs.lemmas.List.{drop-append-le, flat_map_more, get_or-append-add, get_or-drop}
-use Rattle.std.proofs.lemmas.List.{get_or-take, get_or_default, length-drop, length-take, length-take-le, length_push, take_more}
+use Rattle.std.proofs.lemmas.List.{get_or-take, get_or_default, length-drop, length-take, length-take-le, length_push}
+use Rattle.std.proofs.lemmas.List.{take_more}
 use Rattle.std.proofs.lemmas.List.{drop-take, take-take}
 use Rattle.std.proofs.lemmas.List.{take-append-le}
 use Rattle.std.proofs.lemmas.List.Elements.{All-append, All-cons, All-head, All-nil, All-push, All-tail}

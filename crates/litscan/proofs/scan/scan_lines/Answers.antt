@@ -158,8 +158,8 @@ returns-then-not-fed-clause-scanned g c =
     let takes = c.in-Ok.ensures.takes in
     let here = kept_so_far (taken_on c.loop-options.invariant.so_far no takes.1 takes.2) _
     c.in-Ok-read_line.ensures.kept in
-    let still = still_not c.args.options c.loop-options.count _ (none_counted takes.2 (omega (arith, c.if-ahead-gt0.false)))
-    no in
+    let still = still_not c.args.options c.loop-options.count _
+    (none_counted takes.2 (omega (arith, c.if-ahead-gt0.false))) no in
     let fed = c.in-Ok-read_line.fed in
     let line = c.read_line.new.line.items in
     let taken = c.in_ok-taken.ensures.printed in
@@ -181,8 +181,8 @@ loop-options-preserved g c =
     let takes = c.in-Ok.ensures.takes in
     let here = kept_so_far (taken_on c.loop-options.invariant.so_far no takes.1 takes.2) _
     c.in-Ok-read_line.ensures.kept in
-    let still = still_not c.args.options c.loop-options.count _ (none_counted takes.2 (omega (arith, c.if-ahead-gt0.false)))
-    no in
+    let still = still_not c.args.options c.loop-options.count _
+    (none_counted takes.2 (omega (arith, c.if-ahead-gt0.false))) no in
     let fed = c.in-Ok-read_line.fed in
     let line = c.read_line.new.line.items in
     let taken = c.in_ok-taken.ensures.printed in
