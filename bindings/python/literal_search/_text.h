@@ -205,11 +205,11 @@ static uint8_t side_of(Py_UCS4 character) {
 }
 
 /* Makes room for the sides of a str with characters beyond ASCII, from the character before a place on: in a search that
- * begins there none before counts. Those that are not made are zeros, in case that the library reads them. */
+ * begins there none before counts, so these are zeros. */
 static int begin_sides(Text *text, Place at) {
     if (!text->is_wide)
         return 0;
-    text->sides = PyMem_Calloc(text->len, 1);
+    text->sides = PyMem_Malloc(text->len);
     if (!text->sides) {
         PyErr_NoMemory();
         return -1;
@@ -217,6 +217,7 @@ static int begin_sides(Text *text, Place at) {
     for (bool goes_on = at.offset > 0; goes_on; goes_on = (text->bytes[at.byte] & 0xC0) == 0x80)
         at.byte--;
     at.offset -= at.offset > 0;
+    memset(text->sides, 0, at.byte);
     text->made = at;
     return 0;
 }
@@ -235,6 +236,11 @@ static void make_sides(Text *text, size_t last) {
         while (at.byte < text->len && (text->bytes[at.byte] & 0xC0) == 0x80);
     }
     text->made = at;
+}
+
+/* How many bytes of the text, and of its sides, the library is handed: of the sides those that are made. */
+static size_t handed_len(const Text *text) {
+    return text->sides ? text->made.byte : text->len;
 }
 
 /* An offset as it stands in a slice. */

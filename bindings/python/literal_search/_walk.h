@@ -120,8 +120,8 @@ static int find_first(const Prepared *search, const Text *text, size_t at, size_
     }
 }
 
-/* Finds the first whole word between two places, as find_first does. The library is handed the whole text, since what is
- * next to a word counts. If sides are to be made, the first pieces are short, so that few are. */
+/* Finds the first whole word between two places, as find_first does. The library is handed more than the piece, since
+ * what is next to a word counts. If sides are to be made, the first pieces are short, so that few are. */
 static int find_first_word(const Prepared *search, Text *text, size_t at, size_t end, literal_match *found) {
     size_t longest = search->pieces.longest, words_len, piece_end;
     size_t len = !text->sides ? piece_len(search) : SHORT > longest ? SHORT : longest;
@@ -131,8 +131,9 @@ static int find_first_word(const Prepared *search, Text *text, size_t at, size_t
         size_t cut = cut_piece(search, len, at, end, &piece_end);
         PyThreadState *state = let_others_run(piece_end - at);
         make_sides(text, piece_end);
-        int32_t status = literal_find_word_by_sides_in((uint32_t)search->kind, words, words_len, text->bytes, text->len,
-                                                       text->sides, text->sides ? text->len : 0, at, piece_end, found);
+        int32_t status = literal_find_word_by_sides_in((uint32_t)search->kind, words, words_len, text->bytes,
+                                                       handed_len(text), text->sides, text->sides ? handed_len(text) : 0,
+                                                       at, piece_end, found);
         come_back(state);
         if (status != LITERAL_OK && status != LITERAL_NONE)
             return refuse(status);
@@ -257,7 +258,8 @@ static int matches_of_piece(Walk *walk) {
     make_sides(text, piece_end);
     if (walk->search->whole_words)
         status = literal_find_all_words_by_sides_in((uint32_t)walk->search->kind, words, words_len, text->bytes,
-                                                    text->len, text->sides, text->sides ? text->len : 0, walk->at,
+                                                    handed_len(text), text->sides,
+                                                    text->sides ? handed_len(text) : 0, walk->at,
                                                     piece_end, walk->matches, walk->room, &page);
     else
         status = literal_find_all_in(words, words_len, text->bytes, text->len, walk->at, piece_end, walk->matches,
@@ -292,8 +294,8 @@ static int page_of_matches(Walk *walk) {
     return is_alone ? matches_one_by_one(walk) : matches_of_piece(walk);
 }
 
-/* Whether the next piece can be counted alone: it is the last one, or no match reaches over its end. With patterns of more
- * than 1,024 bytes, and with whole words in many bytes, a call might take too long. */
+/* Whether the next piece can be counted alone: it is the last one, or no match reaches over its end. With patterns of
+ * more than 1,024 bytes, and with whole words in many bytes, a call might take too long. */
 static bool is_countable(const Walk *walk) {
     const Prepared *search = walk->search;
     size_t longest = search->pieces.longest, len = walk->end - walk->at;
@@ -312,7 +314,8 @@ static int count_matches(Walk *walk, size_t *count) {
     make_sides(text, end);
     if (walk->search->whole_words)
         status = literal_count_words_by_sides_in((uint32_t)walk->search->kind, words, words_len, text->bytes,
-                                                 text->len, text->sides, text->sides ? text->len : 0, walk->at, end,
+                                                 handed_len(text), text->sides,
+                                                 text->sides ? handed_len(text) : 0, walk->at, end,
                                                  &found);
     else
         status = literal_count_in(words, words_len, text->bytes, text->len, walk->at, end, &found);
