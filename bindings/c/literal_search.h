@@ -392,11 +392,11 @@ int32_t literal_find_all_words_in(uint32_t kind, const uint32_t *prepared, size_
 int32_t literal_count_words_in(uint32_t kind, const uint32_t *prepared, size_t prepared_len, const uint8_t *haystack,
                                size_t haystack_len, size_t start, size_t end, size_t *count);
 
-/* The same three calls for word characters of the caller's choice. `sides` has a byte for each byte of the haystack, and
+/* The same three calls for word characters of the caller's choice. `sides` has a byte for each byte of the haystack. It
  * is looked up in its place next to an occurrence: an ASCII letter, a digit or an underscore means that the byte of the
  * haystack belongs to a word character. For UTF-8, copy the ASCII characters, write 'a' for each byte of another
  * character if it is a letter or a digit, and ' ' otherwise. Only the sides from the byte before start up to the one at
- * end are read. With NULL and 0, the calls are those above.
+ * end count. With NULL and 0, the calls are those above.
  *
  * LITERAL_BAD_ARGUMENTS  also if sides_len is neither haystack_len nor 0 */
 int32_t literal_find_word_by_sides_in(uint32_t kind, const uint32_t *prepared, size_t prepared_len,
@@ -410,18 +410,18 @@ int32_t literal_count_words_by_sides_in(uint32_t kind, const uint32_t *prepared,
                                         const uint8_t *haystack, size_t haystack_len, const uint8_t *sides,
                                         size_t sides_len, size_t start, size_t end, size_t *count);
 
-/* The functions from here on step through the automaton of a search for every occurrence, for loops of the caller's own.
+/* The functions from here on step through the automaton of a search for every occurrence, for loops of the caller.
  * They take an array of literal_prepare_overlapping. A state is a number, which depends on the array: the state after a
  * text is that of the longest suffix of the text with which a pattern begins. If two texts lead to the same state, the
- * same patterns end with both, also after the same further bytes. LITERAL_START_STATE is the state after the empty text.
+ * same patterns end with both, also after the same further bytes. LITERAL_START_STATE is the state of the empty text.
  * A pattern ends with the text exactly if the state is LITERAL_MATCH_STATE or more (literal_is_match).
  *
  * For a number that is no state of the array, an answer has no meaning, or is LITERAL_DAMAGED. */
 #define LITERAL_START_STATE 0
 #define LITERAL_MATCH_STATE 2147483648u
 
-/* The state after one byte more than the text of a state. A call costs much more than its look-up, so for many bytes use
- * literal_walk_in.
+/* The state after one byte more than the text of a state. A call costs much more than its look-up, so use
+ * literal_walk_in for many bytes.
  *
  * LITERAL_OK  next holds the state */
 int32_t literal_next_state_in(const uint32_t *prepared, size_t prepared_len, uint32_t state, uint8_t byte,

@@ -170,13 +170,13 @@ static PyObject *found_in(Prepared *self, const Column *column, const uint8_t *t
     return match;
 }
 
-/* Whether a text goes to the call for one text: a long one, since that call looks for signals, and with whole words one
- * with characters beyond ASCII. */
+/* Whether a text goes to the call for one text: one whose search may take long, since that call looks for signals and lets
+ * other threads run, and with whole words one with characters beyond ASCII. */
 static bool goes_alone(const Prepared *self, const Column *column, const uint8_t *text, size_t len) {
     bool is_wide = false;
     for (size_t i = 0; self->whole_words && column->is_str && i < len && !is_wide; i++)
         is_wide = text[i] >= 0x80;
-    return len > PIECE || is_wide;
+    return len > SHORT || is_wide || (self->whole_words && len > word_len(self));
 }
 
 /* The same by the call for one text. */

@@ -30,8 +30,7 @@ typedef struct {
     Py_buffer buffer; /* its buffer, unless it is a str */
     PyObject *encoded; /* the bytes of a str with a lone surrogate, or NULL */
     PyObject *folded;  /* the folded bytes of a str, or NULL */
-    PyObject *aside;   /* the bytes of the sides, or NULL */
-    uint8_t *sides;    /* those that are looked up next to a whole word, or NULL for those that are searched */
+    uint8_t *sides;    /* those that count next to a whole word, or NULL for those that are searched */
     Place made;        /* up to where the sides are made */
     const uint8_t *bytes, *shown; /* those that are searched, and those of the text itself: two arrays if it is folded */
     size_t len;
@@ -132,7 +131,7 @@ static int hold_str(Text *text, PyObject *of, bool folds) {
 /* Holds a text, of the type that is taken. */
 static int hold(Text *text, Takes takes, PyObject *of) {
     bool is_str = PyUnicode_Check(of);
-    text->of = text->buffer.obj = text->encoded = text->folded = text->aside = NULL;
+    text->of = text->buffer.obj = text->encoded = text->folded = NULL;
     text->sides = NULL;
     text->is_str = is_str;
     text->is_wide = false;
@@ -153,7 +152,8 @@ static void give_back(Text *text) {
         PyBuffer_Release(&text->buffer);
     Py_CLEAR(text->encoded);
     Py_CLEAR(text->folded);
-    Py_CLEAR(text->aside);
+    PyMem_Free(text->sides);
+    text->sides = NULL;
     Py_CLEAR(text->of);
 }
 
@@ -204,23 +204,25 @@ static uint8_t side_of(Py_UCS4 character) {
     return character < 0x80 ? (uint8_t)character : Py_UNICODE_ISALNUM(character) ? 'a' : ' ';
 }
 
-/* Makes room for the sides of a str with characters beyond ASCII, from the character before a place on: a search that
- * begins there looks up none before. */
+/* Makes room for the sides of a str with characters beyond ASCII, from the character before a place on: in a search that
+ * begins there none before counts, so these are zeros. */
 static int begin_sides(Text *text, Place at) {
     if (!text->is_wide)
         return 0;
-    text->aside = PyBytes_FromStringAndSize(NULL, (Py_ssize_t)text->len);
-    if (!text->aside)
+    text->sides = PyMem_Malloc(text->len);
+    if (!text->sides) {
+        PyErr_NoMemory();
         return -1;
-    text->sides = (uint8_t *)PyBytes_AS_STRING(text->aside);
+    }
     for (bool goes_on = at.offset > 0; goes_on; goes_on = (text->bytes[at.byte] & 0xC0) == 0x80)
         at.byte--;
     at.offset -= at.offset > 0;
+    memset(text->sides, 0, at.byte);
     text->made = at;
     return 0;
 }
 
-/* Makes the sides up to the one at byte `last`, if there are any: a search that ends there looks up none behind it. */
+/* Makes the sides up to the one at byte `last`, if there are any: in a search that ends there none behind it counts. */
 static void make_sides(Text *text, size_t last) {
     if (!text->sides)
         return;
@@ -234,6 +236,11 @@ static void make_sides(Text *text, size_t last) {
         while (at.byte < text->len && (text->bytes[at.byte] & 0xC0) == 0x80);
     }
     text->made = at;
+}
+
+/* How many bytes of the text, and of its sides, the library is handed: of the sides those that are made. */
+static size_t handed_len(const Text *text) {
+    return text->sides ? text->made.byte : text->len;
 }
 
 /* An offset as it stands in a slice. */

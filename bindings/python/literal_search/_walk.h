@@ -16,6 +16,7 @@ enum {
     FIRST_PAGE = 32,      /* room for so many matches at first */
     LARGEST_PAGE = 4096,  /* and for so many later */
     READ_AHEAD = 1 << 22, /* bytes of the longest pattern, summed over the matches of a page */
+    WORDS_AHEAD = 1 << 27, /* bytes looked up for whole words, at most, in a call where they are frequent */
     TAIL = 1 << 9,        /* so many bytes in front of a piece tell whether a long pattern may have begun */
     MOST_ROOM = 1 << 15   /* room for so many occurrences, unless a page would go back further than it goes on */
 };
@@ -36,10 +37,21 @@ typedef struct {
 
 /* ---- How far a call of the library goes ---- */
 
+/* In how many bytes whole words are looked for in a moment, however many patterns begin at each: for one the library may
+ * look up as many bytes as the square of the longest pattern. */
+static size_t word_len(const Prepared *search) {
+    size_t longest = search->pieces.longest + 1;
+    return WORDS_AHEAD / longest / longest + 1;
+}
+
 /* How many bytes a search goes on at once. After them a call reads as many as the longest pattern has, or before them
- * in a search for every occurrence: so at most five calls get each byte. */
+ * in a search for every occurrence: so at most five calls get each byte. With whole words it is less, but so much that
+ * few bytes are read twice. */
 static size_t piece_len(const Prepared *search) {
-    return search->pieces.longest / 4 > PIECE ? search->pieces.longest / 4 : PIECE;
+    size_t longest = search->pieces.longest, len = longest / 4 > PIECE ? longest / 4 : PIECE, least = 4 * longest;
+    if (search->whole_words && least < len)
+        len = word_len(search) < least ? least : word_len(search) < len ? word_len(search) : len;
+    return len;
 }
 
 /* Where the next piece of the bytes between `at` and `end` ends. What is found in it is what the whole text has, since
@@ -59,9 +71,11 @@ static size_t cut_piece(const Prepared *search, size_t len, size_t at, size_t en
 }
 
 /* How many matches to find at once: fewer with long patterns, since with one of more than 1,024 bytes the library looks
- * up to 18 times as far after each match. */
+ * up to 18 times as far after each match, and for a whole word even farther. */
 static size_t most_matches(const Prepared *search, size_t wanted) {
     size_t most = READ_AHEAD / (search->pieces.longest + 1);
+    if (search->whole_words && word_len(search) < most)
+        most = word_len(search);
     return most < 2 ? 1 : most < wanted ? most : wanted;
 }
 
@@ -106,8 +120,8 @@ static int find_first(const Prepared *search, const Text *text, size_t at, size_
     }
 }
 
-/* Finds the first whole word between two places, as find_first does. The library is handed the whole text, since what is
- * next to a word counts. If sides are to be made, the first pieces are short, so that few are. */
+/* Finds the first whole word between two places, as find_first does. The library is handed more than the piece, since
+ * what is next to a word counts. If sides are to be made, the first pieces are short, so that few are. */
 static int find_first_word(const Prepared *search, Text *text, size_t at, size_t end, literal_match *found) {
     size_t longest = search->pieces.longest, words_len, piece_end;
     size_t len = !text->sides ? piece_len(search) : SHORT > longest ? SHORT : longest;
@@ -117,8 +131,9 @@ static int find_first_word(const Prepared *search, Text *text, size_t at, size_t
         size_t cut = cut_piece(search, len, at, end, &piece_end);
         PyThreadState *state = let_others_run(piece_end - at);
         make_sides(text, piece_end);
-        int32_t status = literal_find_word_by_sides_in((uint32_t)search->kind, words, words_len, text->bytes, text->len,
-                                                       text->sides, text->sides ? text->len : 0, at, piece_end, found);
+        int32_t status = literal_find_word_by_sides_in((uint32_t)search->kind, words, words_len, text->bytes,
+                                                       handed_len(text), text->sides, text->sides ? handed_len(text) : 0,
+                                                       at, piece_end, found);
         come_back(state);
         if (status != LITERAL_OK && status != LITERAL_NONE)
             return refuse(status);
@@ -243,7 +258,8 @@ static int matches_of_piece(Walk *walk) {
     make_sides(text, piece_end);
     if (walk->search->whole_words)
         status = literal_find_all_words_by_sides_in((uint32_t)walk->search->kind, words, words_len, text->bytes,
-                                                    text->len, text->sides, text->sides ? text->len : 0, walk->at,
+                                                    handed_len(text), text->sides,
+                                                    text->sides ? handed_len(text) : 0, walk->at,
                                                     piece_end, walk->matches, walk->room, &page);
     else
         status = literal_find_all_in(words, words_len, text->bytes, text->len, walk->at, piece_end, walk->matches,
@@ -278,12 +294,14 @@ static int page_of_matches(Walk *walk) {
     return is_alone ? matches_one_by_one(walk) : matches_of_piece(walk);
 }
 
-/* Whether the next piece can be counted alone: it is the last one, or no match reaches over its end. With patterns of more
- * than 1,024 bytes a call might take too long. */
+/* Whether the next piece can be counted alone: it is the last one, or no match reaches over its end. With patterns of
+ * more than 1,024 bytes, and with whole words in many bytes, a call might take too long. */
 static bool is_countable(const Walk *walk) {
-    size_t longest = walk->search->pieces.longest;
-    return !walk->is_part && longest <= 1024 &&
-           (longest <= 1 || end_of_piece(walk->search, walk->at, walk->end) == walk->end);
+    const Prepared *search = walk->search;
+    size_t longest = search->pieces.longest, len = walk->end - walk->at;
+    if (walk->is_part || longest > 1024 || (search->whole_words && longest > 1 && len > word_len(search)))
+        return false;
+    return longest <= 1 || end_of_piece(search, walk->at, walk->end) == walk->end;
 }
 
 /* Counts the matches of the next piece. */
@@ -296,7 +314,8 @@ static int count_matches(Walk *walk, size_t *count) {
     make_sides(text, end);
     if (walk->search->whole_words)
         status = literal_count_words_by_sides_in((uint32_t)walk->search->kind, words, words_len, text->bytes,
-                                                 text->len, text->sides, text->sides ? text->len : 0, walk->at, end,
+                                                 handed_len(text), text->sides,
+                                                 text->sides ? handed_len(text) : 0, walk->at, end,
                                                  &found);
     else
         status = literal_count_in(words, words_len, text->bytes, text->len, walk->at, end, &found);

@@ -94,6 +94,16 @@ class Columns(unittest.TestCase):
         self.check(Search(["ba", "a"]), [text, "b", "ä" + text], (b"u", b"U"))
         self.check(Search(["ba", "a"], whole_words=True), [text + " ba a"], (b"u",))
 
+    def test_what_goes_to_the_call_for_one_text(self):
+        """A text whose search may take long: it can be ended by a signal."""
+        class Alone(Search):
+            def count(self, text):
+                return "alone"
+
+        column, long = Column(["a", "a" * 5000], b"u"), " ".join(301 * "a")
+        self.assertEqual(Alone(["a"]).count_each(column), [1, "alone"])
+        self.assertEqual(Alone([long], whole_words=True).count_each(Column([long, "a"], b"u")), ["alone", 0])
+
     def test_random_texts(self):
         chance = random.Random(3)
         for _ in range(60):

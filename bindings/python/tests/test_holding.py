@@ -336,6 +336,12 @@ class Signals(unittest.TestCase):
             self.assertEqual(self.interrupted(map(call, [text], [Raising()])), [])
             text += b"a"  # (it is given back)
 
+    def test_between_pages_of_whole_words(self):
+        """Many patterns begin at each word, so few words are found at once."""
+        searcher, text = Search([" ".join(it * "a") for it in range(1, 301)], whole_words=True), "a " * 1000
+        for call in searcher.findall, searcher.count:
+            self.assertEqual(self.interrupted(map(call, [text], [Raising()])), [])
+
     def test_of_another_thread(self):
         """It waits for a lock, which is released right before the search, so it runs during the search. The text would
         take far longer, and is given back."""

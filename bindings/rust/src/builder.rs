@@ -88,12 +88,15 @@ impl AhoCorasickBuilder {
         I: IntoIterator<Item = P>,
         P: AsRef<[u8]>,
     {
-        let pieces = Pieces::new(patterns)?;
+        let mut pieces = Pieces::new(patterns)?;
         let leftmost = Leftmost::new(self.kind, self.ignore_case, &pieces)?;
         let (is_standard, every) = (self.kind == MatchKind::Standard, Lazy::new());
         let is_picked = is_standard && !leftmost.is_fast();
         if is_picked {
             every.get_or_try(|| Prepared::overlapping(self.ignore_case, &pieces))?;
+        }
+        if !is_standard && leftmost.is_fast() {
+            pieces.drop_bytes();
         }
         Ok(AhoCorasick::of(Parts {
             kind: self.kind,

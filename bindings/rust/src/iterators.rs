@@ -40,7 +40,7 @@ impl<'a, 'h> FindIter<'a, 'h> {
 
     pub(crate) fn long(searcher: &'a AhoCorasick, pages: FindIter<'a, 'h>) -> FindIter<'a, 'h> {
         match pages.0 {
-            Way::Pages(pages) => FindIter(Way::Long(Box::new(Long { searcher, pages, picking: None }))),
+            Way::Pages(pages) => FindIter(Way::Long(Box::new(Long::new(searcher, pages)))),
             other => FindIter(other),
         }
     }
@@ -178,42 +178,60 @@ impl<'a, 'h> Pages<'a, 'h> {
 
 /// The matches of a leftmost kind with a pattern after whose matches the library searches anew. Where matches lie close
 /// together, they are picked from every occurrence instead.
+///
+/// If the matches of a page lie close together, those after it are picked, until one is far from the one before. Then
+/// pages begin again, with little room: so few matches are searched for before they are picked again, and the time is
+/// linear in the haystack, whatever the distances of its matches are.
 #[derive(Clone)]
 struct Long<'a, 'h> {
     searcher: &'a AhoCorasick,
     pages: Pages<'a, 'h>,
     picking: Option<Picking<'a, 'h>>,
+    /// Whether matches can be picked: memory for it was not refused.
+    can_pick: bool,
 }
 
-impl Long<'_, '_> {
+impl<'a, 'h> Long<'a, 'h> {
+    fn new(searcher: &'a AhoCorasick, pages: Pages<'a, 'h>) -> Long<'a, 'h> {
+        Long { searcher, pages, picking: None, can_pick: true }
+    }
+
     fn next(&mut self) -> Option<Match> {
-        loop {
-            let start = self.pages.rest.start;
-            if let Some(picking) = &mut self.picking {
-                let found = picking.next()?;
-                self.pages.rest.start = found.end();
-                if !self.searcher.are_close(1, found.end() - start) {
-                    self.picking = None;
-                }
-                return Some(found);
+        if self.pages.is_given() {
+            match self.picking.as_mut().map(Picking::next) {
+                Some(Ok(found)) => return found.map(|it| self.picked(it)),
+                Some(Err(_)) => (self.picking, self.can_pick) = (None, false),
+                None => (),
             }
-            let is_page = self.pages.is_given();
-            let found = self.pages.next();
-            if !is_page
-                || self.pages.is_last
-                || !self.searcher.are_close(self.pages.written, self.pages.rest.start - start)
-            {
-                return found;
+            if !self.pages.is_last {
+                self.turn();
             }
-            // (the page is dropped, and its matches are picked again)
-            let input = Input::new(self.pages.haystack).span(start..self.pages.rest.end);
-            self.picking = self.searcher.picking(&input);
-            if self.picking.is_none() {
-                return found;
-            }
-            self.pages.rest.start = start;
-            self.pages.given = self.pages.written;
         }
+        self.pages.next()
+    }
+
+    /// Finds the next page. If its matches lie close together, those after it will be picked.
+    fn turn(&mut self) {
+        let start = self.pages.rest.start;
+        self.pages.turn();
+        let rest = self.pages.rest;
+        let is_close = rest.start - start <= self.searcher.close_len(self.pages.written);
+        if self.can_pick && !self.pages.is_last && is_close {
+            self.picking = self.searcher.picking(&Input::new(self.pages.haystack).span(rest));
+            self.can_pick = self.picking.is_some();
+        }
+    }
+
+    /// Goes on after a match that was picked.
+    fn picked(&mut self, found: Match) -> Match {
+        let rest = Span { start: found.end(), ..self.pages.rest };
+        let len = rest.start - self.pages.rest.start;
+        self.pages.rest = rest;
+        if len > self.searcher.close_len(1) {
+            self.picking = None;
+            self.pages = Pages::new(self.pages.search, self.pages.haystack, rest);
+        }
+        found
     }
 }
 

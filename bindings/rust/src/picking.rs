@@ -1,7 +1,7 @@
 //! Leftmost matches picked from every occurrence, for long patterns whose matches lie close together.
 use crate::occurrences::{Every, FindOverlappingIter};
 use crate::{Input, Match, MatchKind};
-use alloc::collections::VecDeque;
+use alloc::collections::{TryReserveError, VecDeque};
 
 /// The matches of a leftmost kind in an input.
 ///
@@ -15,13 +15,16 @@ pub struct Picking<'a, 'h> {
     is_longest: bool,
     /// Where the match before ends.
     at: usize,
-    /// The occurrence that the kind prefers at each offset from `base` on, or a match without bytes.
+    /// The occurrence that the kind prefers at each offset from `base` on, or a match without bytes: for fewer offsets
+    /// than twice the length of the longest pattern.
     best: VecDeque<Match>,
     base: usize,
     /// The first offset with an occurrence.
     first: Option<usize>,
     /// All occurrences that end up to here are known.
     known: usize,
+    /// The one after these. It is kept once all matches are taken that it can't change.
+    next: Option<Match>,
 }
 
 impl<'a, 'h> Picking<'a, 'h> {
@@ -35,11 +38,30 @@ impl<'a, 'h> Picking<'a, 'h> {
             base: input.start(),
             first: None,
             known: input.start(),
+            next: None,
+        }
+    }
+
+    /// The next match, or none at the end; or an error if memory is refused, after the matches before.
+    pub fn next(&mut self) -> Result<Option<Match>, TryReserveError> {
+        loop {
+            if let Some(found) = self.take() {
+                return Ok(Some(found));
+            }
+            if let Some(found) = self.next.take().filter(|it| self.at <= it.start()) {
+                self.keep(found)?;
+            }
+            self.next = self.all.next();
+            match self.next {
+                Some(found) => self.known = found.end() - 1,
+                None if self.first.is_some() => self.known = usize::MAX,
+                None => return Ok(None),
+            }
         }
     }
 
     /// Keeps an occurrence, if it is the best one that begins there.
-    fn keep(&mut self, found: Match) {
+    fn keep(&mut self, found: Match) -> Result<(), TryReserveError> {
         if self.first.is_none() {
             // (none that comes later begins before this)
             self.best.clear();
@@ -47,6 +69,7 @@ impl<'a, 'h> Picking<'a, 'h> {
         }
         let place = found.start() - self.base;
         if self.best.len() <= place {
+            self.reserve(place + 1)?;
             self.best.resize(place + 1, Match::ZERO);
         }
         let best = &mut self.best[place];
@@ -55,6 +78,17 @@ impl<'a, 'h> Picking<'a, 'h> {
             *best = found;
         }
         self.first = Some(self.first.map_or(found.start(), |it| it.min(found.start())));
+        Ok(())
+    }
+
+    /// Makes room for so many offsets, or for more: twice as many as there was room for, up to the most that are needed.
+    fn reserve(&mut self, len: usize) -> Result<(), TryReserveError> {
+        let room = self.best.capacity();
+        if len <= room {
+            return Ok(());
+        }
+        let most = self.longest.saturating_mul(2);
+        self.best.try_reserve_exact(len.max(most.min(2 * room)) - self.best.len())
     }
 
     /// The first match that is kept, if nothing that comes later can change it.
@@ -69,27 +103,5 @@ impl<'a, 'h> Picking<'a, 'h> {
         self.base = found.end();
         self.first = self.best.iter().position(|it| !it.is_empty()).map(|it| self.base + it);
         Some(found)
-    }
-}
-
-impl Iterator for Picking<'_, '_> {
-    type Item = Match;
-
-    fn next(&mut self) -> Option<Match> {
-        loop {
-            if let Some(found) = self.take() {
-                return Some(found);
-            }
-            match self.all.next() {
-                Some(found) => {
-                    self.known = found.end() - 1;
-                    if found.start() >= self.at {
-                        self.keep(found);
-                    }
-                }
-                None if self.first.is_some() => self.known = usize::MAX,
-                None => return None,
-            }
-        }
     }
 }

@@ -34,7 +34,7 @@ pub(crate) struct Parts {
     pub leftmost: Leftmost,
     /// Whether an iteration picks its matches from every occurrence, by the standard kind alone.
     pub is_picked: bool,
-    /// The patterns, of which `every` is built.
+    /// The patterns, of which `every` is built; or their lengths alone, if it is never built.
     pub pieces: Pieces,
     /// The array for every occurrence. By a leftmost kind matches of long patterns may be picked from them.
     pub every: Lazy<Prepared>,
@@ -140,7 +140,10 @@ impl AhoCorasick {
 
     /// All matches that do not overlap: first that of [`AhoCorasick::find`], and then the first after each match.
     ///
-    /// It allocates room for at most 1,024 matches, and none if there are few.
+    /// It allocates room for at most 1,024 matches, and none if there are few. By a leftmost kind with a pattern of more
+    /// than 1,024 bytes, it picks matches that lie close together from every occurrence. That may allocate 48 bytes for
+    /// each byte of the longest pattern, the room of [`AhoCorasick::find_overlapping_iter`], and the first time the array
+    /// for every occurrence. If memory for the bytes of the pattern or for the array is refused, it goes on without.
     ///
     /// # Panics
     ///
@@ -190,10 +193,10 @@ impl AhoCorasick {
         }
     }
 
-    /// Whether so many matches in so many bytes lie so close together that it takes less to pick them from every
-    /// occurrence, of which each byte may end one for each pattern, than to search anew after each match.
-    pub(crate) fn are_close(&self, count: usize, len: usize) -> bool {
-        self.parts.patterns_len.saturating_mul(len) <= self.parts.longest.saturating_mul(count)
+    /// In how many bytes so many matches lie so close together that it takes less to pick them from every occurrence, of
+    /// which each byte may end one for each pattern, than to search anew after each match.
+    pub(crate) fn close_len(&self, count: usize) -> usize {
+        self.parts.longest.saturating_mul(count) / self.parts.patterns_len.max(1)
     }
 
     /// The matches by a leftmost kind, picked from every occurrence, unless the array for that can't be built.
@@ -407,7 +410,7 @@ impl AhoCorasick {
 
     /// The length of a pattern, by its number.
     pub(crate) fn pattern_len(&self, pattern: PatternID) -> usize {
-        self.parts.pieces.get(pattern.as_u32()).len()
+        self.parts.pieces.len_of(pattern.as_u32())
     }
 
     /// The length of the shortest pattern, and 0 without patterns.
