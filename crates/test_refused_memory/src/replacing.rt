@@ -110,16 +110,11 @@ fn replace_stream_of_a_search(rt: HostRuntime) -> Result<(), AllocError> {
 fn remark(rt: &impl Abort, alloc: Global, search: &Search) -> Result<bool, ReplaceStreamError> {
     let (mut text, mut room) = (b"qab-ABC".as_slice(), [0; 12]);
     let mut written = room.as_mut_slice();
-    let done = search.replace_stream_with(
-        alloc,
-        &mut text,
-        &mut written,
-        |_, bytes, writer| {
-            writer.write_all(b"<")?;
-            writer.write_all(bytes)?;
-            writer.write_all(b">")
-        },
-    );
+    let done = search.replace_stream_with(alloc, &mut text, &mut written, |_, bytes, writer| {
+        writer.write_all(b"<")?;
+        writer.write_all(bytes)?;
+        writer.write_all(b">")
+    });
     assert!(rt; text.is_empty() == done.is_ok());
     done?;
     Ok(room.starts_with(b"q<ab>-<ABC>"))

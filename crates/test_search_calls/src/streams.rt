@@ -107,16 +107,11 @@ fn example_of_replacing_in_a_stream_with(rt: HostRuntime) -> Result<(), Fail> {
     let alloc = rt.alloc();
     let search = Search::builder().build(alloc, [b"apple".as_slice(), b"maple"])?;
     let (mut text, mut written) = (b"apple, maple".as_slice(), Vec::new(alloc));
-    search.replace_stream_with(
-        alloc,
-        &mut text,
-        &mut written,
-        |_, bytes, writer| {
-            writer.write_all(b"<")?;
-            writer.write_all(bytes)?;
-            writer.write_all(b">")
-        },
-    )?;
+    search.replace_stream_with(alloc, &mut text, &mut written, |_, bytes, writer| {
+        writer.write_all(b"<")?;
+        writer.write_all(bytes)?;
+        writer.write_all(b">")
+    })?;
     assert!(rt; written.as_slice() == b"<apple>, <maple>".as_slice());
     Ok(())
 }
@@ -132,18 +127,13 @@ fn calls_have_offsets_in_the_text(rt: HostRuntime) -> Result<(), Fail> {
     };
     let (mut written, mut ends) = (Vec::new(alloc), [0; 2]);
     let mut count = 0;
-    search.replace_stream_with(
-        alloc,
-        &mut pieces,
-        &mut written,
-        |found, _, _| {
-            if let Some(end) = ends.get_mut(count) {
-                *end = found.end();
-                count = 1;
-            }
-            Ok(())
-        },
-    )?;
+    search.replace_stream_with(alloc, &mut pieces, &mut written, |found, _, _| {
+        if let Some(end) = ends.get_mut(count) {
+            *end = found.end();
+            count = 1;
+        }
+        Ok(())
+    })?;
     assert!(rt; written.as_slice() == b"xxx".as_slice());
     assert!(rt; ends == [5, 9]);
     Ok(())
