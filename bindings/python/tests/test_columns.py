@@ -71,7 +71,7 @@ class Columns(unittest.TestCase):
                     self.assertEqual(call(column, skip_missing=skips), wanted, (call, texts, form))
 
     def test_texts(self):
-        texts = ["a WARN", "", "fine", "ERROR and WARN", "ä WARN", "warn", "x" * 5000 + "ERROR"]
+        texts = ["a WARN", "", "fine", "ERROR and WARN", "WARNED", "ä WARN", "warn", "x" * 5000 + "ERROR"]
         for ignore_case in False, True, "ascii":
             for whole_words in False, True:
                 searcher = Search(["ERROR", "WARN"], ignore_case=ignore_case, whole_words=whole_words)
