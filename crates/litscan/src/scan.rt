@@ -29,7 +29,7 @@ use std::alloc::Global;
 use std::io::{BufRead, ErrorKind, Write};
 
 /// Words longer than this are long.
-const SHORT: usize = 16;
+const SHORT: usize = 32;
 
 /// After this many lines in a row, with the last one, without another match, a scan looks at all buffered lines.
 const LONG: usize = 3;
