@@ -119,16 +119,11 @@ impl Search {
     /// ```rust
     /// let search = Search::builder().build(alloc, [b"apple".as_slice(), b"maple"])?;
     /// let (mut text, mut written) = (b"apple, maple".as_slice(), Vec::new(alloc));
-    /// search.replace_stream_with(
-    ///     alloc,
-    ///     &mut text,
-    ///     &mut written,
-    ///     |_, bytes, writer| {
-    ///         writer.write_all(b"<")?;
-    ///         writer.write_all(bytes)?;
-    ///         writer.write_all(b">")
-    ///     },
-    /// )?;
+    /// search.replace_stream_with(alloc, &mut text, &mut written, |_, bytes, writer| {
+    ///     writer.write_all(b"<")?;
+    ///     writer.write_all(bytes)?;
+    ///     writer.write_all(b">")
+    /// })?;
     /// assert!(rt; written.as_slice() == b"<apple>, <maple>".as_slice());
     /// ```
     pub fn replace_stream_with<R: Read, W: Write, F: FnMut(Match, &[u8], &mut W) -> io::Result<()>>(
