@@ -1,10 +1,10 @@
 -- States of the automaton in an array for every occurrence, for loops in C.
-use Rattle.std.specs.Prelude.{◌≡◌, ◌⊎◌, ℕ, ℤ, ◌++◌, ◌-◌, ◌<◌, List, drop, length, slice_range, take}
-use Rattle.literal_base.specs.Occurs.{whole_of}
+use Rattle.std.specs.Prelude.{◌≡◌, ℕ, ℤ, Bool, ◌-◌, List, drop, if◌then◌else◌, length, take}
+use Rattle.literal_base.specs.Occurs.{between, whole_of}
 use Rattle.literal_search.specs.Automaton.{AreAtEnd, IsStateAfter}
 use Rattle.literal_search.specs.Overlapping.{OverlappingValue}
 use Rattle.literal_search.specs.PreparedOverlapping.{ForOverlapping, HasLists, tables_in}
-use Rattle.literal_search.specs.PreparedStates.{EndsAfter, HasRow}
+use Rattle.literal_search.specs.PreparedStates.{HasRow, IsWalked}
 use Rattle.literal_c.specs.Arguments.{IsStatusOf}
 use Rattle.literal_c.specs.declared.TheConstants.{LITERAL_DAMAGED, LITERAL_NONE, LITERAL_OK}
 
@@ -20,15 +20,13 @@ pub record IsStateStatus (array : List ℕ) (state : ℕ) (agree : Type 0) (IsDo
   pub by_array : IsStatusOf (HasLists array) (λ P. ForState array state (λ _ _. P)) agree IsDone status
   pub no_row : agree → ¬ HasRow array state → status ≡ LITERAL_DAMAGED
 
--- a walk from a state has stopped at an offset, in a state: it has read all bytes up to there. With `LITERAL_OK` this
--- is the first offset after the start at which a pattern ends, and with `LITERAL_NONE` it is the end, and there is none
-pub record HasStopped (array : List ℕ) (search : OverlappingValue) (text haystack : List ℕ) (start end : ℕ)
-    (status : ℤ) (next at : ℕ) : Type 0 where
-  pub state : IsStateAfter (tables_in search array) (text ++ slice_range haystack start at) next
-  pub none : (upto : ℕ) → start < upto → upto < at → ¬ EndsAfter (tables_in search array) text haystack start upto
-  pub stops : ((status ≡ LITERAL_OK) × (start < at) × EndsAfter (tables_in search array) text haystack start at)
-      ⊎ ((status ≡ LITERAL_NONE) × (at ≡ end)
-      × (start < end → ¬ EndsAfter (tables_in search array) text haystack start end))
+-- a walk from a state has stopped at an offset, in a state: with `LITERAL_OK` at the first offset after the start at
+-- which a pattern ends, and with `LITERAL_NONE` at the end, if there is none
+abbrev pub HasStopped : List ℕ → OverlappingValue → List ℕ → List ℕ → ℕ → ℕ → ℤ → ℕ → ℕ → Type 0
+HasStopped array search text haystack start end status next at = (is_match : Bool)
+    × IsWalked (tables_in search array) text haystack (between start end)
+    (record { state = next; at = at; is_match = is_match })
+    × (status ≡ (if is_match then LITERAL_OK else LITERAL_NONE))
 
 -- a page of the patterns that are suffixes of a text: their numbers in ascending order from an index on, as many as
 -- there is room for. The rest of the array is unchanged, and `total` is the number of all

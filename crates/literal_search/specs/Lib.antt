@@ -13,6 +13,7 @@ pub mod Prepared
 pub mod PreparedOverlapping
 pub mod PreparedStates
 pub mod PreparedWords
+pub mod RefusedList
 pub mod Replaced
 pub mod ReplacedStream
 pub mod SearchBuilderValue

@@ -9,7 +9,7 @@ use crate::device::{Device, flush_line};
 use crate::fault::Fault;
 use crate::options::Options;
 use crate::passed::look_ahead;
-use crate::scan::{offsets_behind, prints_nothing, take_line};
+use crate::scan::{end_behind, prints_nothing, take_line};
 use literal_search::Search;
 use std::io::Write;
 
@@ -61,7 +61,7 @@ pub fn take_buffered<W: Write>(
     ensures inside { IfOk result (λ ahead. ahead.bytes ≤ length bytes.now) }
     ensures error { IfErr result (IsWriteFault writer.new.failure) }
 {
-    let Some(_) = offsets_behind(offset, 0, bytes) else {
+    let Some(_) = end_behind(offset, bytes, 0) else {
         return Ok(Ahead::none());
     };
     let passed = look_ahead(options.line_end, search, far, bytes);

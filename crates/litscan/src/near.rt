@@ -13,7 +13,7 @@ use crate::context::Context;
 use crate::device::{Device, ReadsAhead, flush_before_wait, flush_line};
 use crate::fault::Fault;
 use crate::options::{Options, is_enough};
-use crate::scan::{Scanned, counts, failed_behind, offsets_behind};
+use crate::scan::{Scanned, counts, end_behind, failed_behind};
 use literal_search::Search;
 use std::alloc::Global;
 use std::io::{BufRead, Write};
@@ -54,7 +54,7 @@ pub fn scan_near<R: BufRead + ReadsAhead, W: Write>(
             Err(fault) => return failed_behind(count, fault, reader.failure()),
         };
         // One byte is added, so that the next line number is below 2^64 too.
-        let Some((_, end)) = offsets_behind(offset, 1, line.as_slice()) else {
+        let Some(end) = end_behind(offset, line.as_slice(), 1) else {
             return Ok(Scanned::too_large(count));
         };
         if !fed && line.is_empty() {
@@ -70,7 +70,7 @@ pub fn scan_near<R: BufRead + ReadsAhead, W: Write>(
         if !fed {
             return Ok(Scanned::whole(count));
         }
-        offset = end - 1;
+        offset = end;
     }
 }
 

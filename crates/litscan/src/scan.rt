@@ -185,11 +185,11 @@ fn scan_lines<R: BufRead + ReadsAhead, W: Write>(
             Err(fault) => return failed_behind(count, fault, reader.failure()),
         };
         let line = line.as_slice();
-        let Some((start, end)) = offsets_behind(offset, 0, line) else {
+        let Some(end) = end_behind(offset, line, 0) else {
             return Ok(Scanned::too_large(count));
         };
         lines += 1;
-        let taken = take_read(fed, search, options, name, lines, start, line, writer)?;
+        let taken = take_read(fed, search, options, name, lines, offset, line, writer)?;
         count += taken;
         gap = gap.with(1, (taken > 0) != options.others);
         if !fed {
@@ -285,18 +285,14 @@ pub fn failed_behind(count: u64, fault: Fault, failure: Option<ErrorKind>) -> Re
     }
 }
 
-/// The offset after this many skipped bytes, and the offset after the next line and its end. None if these reach
-/// 2^64.
-pub fn offsets_behind(offset: u64, passed: usize, line: &[u8]) -> Option<(u64, u64)>
-    ensures { MatchOption result (2 ^ 64 ≤ offset + passed + length line.now + 1)
-        (λ ends. (ends.0 ≡ offset + passed) × (ends.1 ≡ offset + passed + length line.now + 1)
-        × (ends.1 < 2 ^ 64)) }
+/// The offset after the next line and its end. None if this and so many bytes more reach 2^64.
+pub fn end_behind(offset: u64, line: &[u8], more: u64) -> Option<u64>
+    ensures { MatchOption result (2 ^ 64 ≤ offset + length line.now + 1 + more)
+        (λ end. (end ≡ offset + length line.now + 1) × (end + more < 2 ^ 64)) }
 {
-    let start = offset.checked_add(passed as u64)?;
-    let next = start
-        .checked_add(line.len() as u64)
-        .and_then(|end| end.checked_add(1))?;
-    Some((start, next))
+    let end = offset.checked_add(line.len() as u64)?.checked_add(1)?;
+    end.checked_add(more)?;
+    Some(end)
 }
 
 /// Handles the text in the buffer as a line, except an empty text at the end of the input, where no end of a line was

@@ -1,30 +1,18 @@
 -- The parameters of the contract that states all guarantees of a search for any list of patterns.
-use Rattle.std.specs.Prelude.{◌≡◌, ◌⊎◌, ℕ, ◌<◌, List, MatchResult, Option, Result, length, map, take}
+use Rattle.std.specs.Prelude.{◌≡◌, ◌⊎◌, ℕ, List, MatchResult, Option, Result, map}
 use Rattle.std.specs.Borrow.{Bor}
-use Rattle.literal_base.specs.Occurs.{NoneIsEmpty, pattern_at}
-use Rattle.literal_ids.specs.declared.primitives.pattern_id.TheConstants.PatternID
 use Rattle.literal_base.specs.MatchValue.{MatchValue}
 use Rattle.literal_search.specs.Prepared.{WritesPrepared}
+use Rattle.literal_search.specs.RefusedList.{RefusesPatterns}
 use Rattle.literal_search.specs.SearchValue.{NeedTooManyReversed, NeedTooManyStates, SearchValue, search_by}
 use Rattle.literal_search.specs.declared.BuildError.{BuildError}
 use Rattle.literal_search.specs.declared.prepared.ArrayTooShort.{ArrayTooShort}
-use Rattle.literal_search.specs.declared.BuildError.TheVariants.{EmptyPattern, OutOfMemory, TooManyPatterns}
-use Rattle.literal_search.specs.declared.BuildError.TheVariants.{TooManyStates}
 use Rattle.search_promise.specs.declared.AnySearch.{AnySearch}
 
 -- the search that is asked for
 abbrev pub searched_for : AnySearch → SearchValue
 searched_for asked =
     search_by asked.kind asked.ignore_case (map (λ (p : Bor (List ℕ)). p.now) asked.patterns.now)
-
--- why a list is refused: a pattern is empty, and none before it; memory is refused, and there is a pattern; there are
--- more patterns than identifiers; or they need too many states
-abbrev pub RefusesPatterns : (List (List ℕ) → Type 0) → List (List ℕ) → BuildError → Type 0
-RefusesPatterns NeedTooMany patterns (EmptyPattern number) =
-    (number < length patterns) × (length (pattern_at patterns number) ≡ 0) × NoneIsEmpty (take number patterns)
-RefusesPatterns NeedTooMany patterns OutOfMemory = 0 < length patterns
-RefusesPatterns NeedTooMany patterns TooManyPatterns = PatternID.LIMIT < length patterns
-RefusesPatterns NeedTooMany patterns TooManyStates = NeedTooMany patterns
 
 -- the patterns need too many states for one of the two searches that are asked for
 abbrev pub NeedTooManyForAny : AnySearch → List (List ℕ) → Type 0

@@ -23,13 +23,17 @@ use Rattle.literal_base.specs.declared.packed.MatchKind.{MatchKind}
 use Rattle.literal_base.specs.Greedy.{IsGreedy, IsGreedyIn}
 use Rattle.literal_base.specs.Leftmost.{IsLeftmost, IsLeftmostMatch}
 use Rattle.literal_base.specs.MatchValue.{MatchValue}
-use Rattle.literal_base.specs.Occurs.{Occurs, between, pattern_at, rest_from, whole_of}
+use Rattle.literal_base.specs.Occurs.{NoneIsEmpty, NothingOccurs, Occurs, between, pattern_at, rest_from, whole_of}
 use Rattle.literal_base.proofs.lemmas.Callers.{GivesList}
 use Rattle.literal_search.specs.SearchValue.{BuildsSearch, SearchValue, GivesAll, GivesNext, NeedTooManyStates}
 use Rattle.literal_search.specs.SearchValue.{search_by}
-use Rattle.literal_search.specs.SearchValue.{NeedTooManyReversed}
+use Rattle.literal_search.specs.RefusedList.{RefusesPatterns}
+use Rattle.literal_search.specs.SearchValue.{MayRefuseList, NeedTooManyReversed, RefusesSearch}
+use Rattle.literal_search.specs.declared.BuildError.{BuildError}
+use Rattle.literal_search.specs.declared.BuildError.TheVariants.{EmptyPattern, OutOfMemory, TooManyPatterns}
+use Rattle.literal_search.specs.declared.BuildError.TheVariants.{TooManyStates}
 use Rattle.literal_search.specs.Automaton.{AreAtEnd, EndsText, IsStateAfter}
-use Rattle.literal_search.specs.MatchesValue.{GivesMatch, MatchesValue}
+use Rattle.literal_search.specs.MatchesValue.{GivesMatch, GivesThen, MatchesValue}
 use Rattle.literal_search.specs.Overlapping.{BuildsOverlapping, OverlappingValue}
 use Rattle.literal_search.specs.PreparedOverlapping.{Tables, overlapping_value}
 use Rattle.literal_search.specs.Replaced.{IsReplaced, IsWritten, WritesMatch, WritingValue, replaced, replaced_by}
@@ -38,7 +42,7 @@ use Rattle.literal_search.proofs.lemmas.Automaton.{all_in_haystack, in_haystack,
 use Rattle.literal_search.proofs.lemmas.Rows.{none_few, one_class}
 use Rattle.literal_search.proofs.lemmas.Walk.{slice_push}
 use Rattle.std.specs.List.{IsAmong, filter}
-use Rattle.std.proofs.Common.{cond, suc, true, zero, ⊎_elim}
+use Rattle.std.proofs.Common.{cond, inl, inr, suc, true, zero, ⊎_elim}
 use Rattle.std.proofs.lemmas.Bool.{cases_Bool}
 use Rattle.std.proofs.lemmas.List.Elements.{All-filter, filter_passes}
 use Rattle.std.proofs.lemmas.List.Kept.{AllPairs-filter}
@@ -94,6 +98,23 @@ module _ {U T : Type 0} {becomes : U → T → Type 0} {steps : T → Option (Bo
             one.next_is ∙ turn.1 ∙ ap (λ n. get_or list n one.item.now) (sym count)
             ∙ get_or_default list (length patterns) one.item.now [] (omega (arith, turn.0, count));
       }
+
+  -- an error of what is built of them says why the list is refused
+  pub refuses_patterns : (NeedTooMany : List (List ℕ) → Type 0) (error : BuildError)
+      → RefusesSearch becomes steps given NeedTooMany error → RefusesPatterns NeedTooMany list error
+  refuses_patterns NeedTooMany (EmptyPattern number) (patterns, next, one, empty, is) =
+      let on = next_given one in
+      let here : number ≡ length patterns = is in (
+        omega (arith, on.within, here),
+        ap (λ n. length (pattern_at list n)) here ∙ ap (λ (l : List ℕ). length l) (sym on.next_is) ∙ empty,
+        subst NoneIsEmpty (on.are ∙ ap (λ n. take n list) (sym here)) one.can_be_kept.some,
+      )
+  refuses_patterns NeedTooMany OutOfMemory (inl one) = let on = next_given one.2 in omega (arith, on.within)
+  refuses_patterns NeedTooMany OutOfMemory (inr all) =
+      let is = all_given all.1 in omega (arith, all.2, ap (λ (l : List (List ℕ)). length l) is)
+  refuses_patterns NeedTooMany TooManyPatterns one =
+      let on = next_given one.2 in omega (arith, on.within, one.4)
+  refuses_patterns NeedTooMany TooManyStates all = subst NeedTooMany (all_given all.1) all.2
 
   pub search_is_for_bytes : (kind : MatchKind) (ignore_case : Bool) (built : SearchValue)
       → BuildsSearch becomes steps given kind ignore_case built → built ≡ search_by kind ignore_case list
@@ -182,7 +203,7 @@ pub record AreMatchesFrom (search : SearchValue) (haystack : List ℕ) (at : ℕ
 module _ {search : SearchValue} {haystack : List ℕ} {at : ℕ} {it next : MatchesValue}
     (from : AreMatchesFrom search haystack at it) where
   -- a step gives the leftmost match from there on
-  pub match_from : (answer : Option MatchValue) → GivesMatch it answer next
+  pub match_from : {to : Span → Option MatchValue → ℕ} (answer : Option MatchValue) → GivesThen to it answer next
       → IsLeftmost search.query search.ignore_case haystack (rest_from haystack at) answer
   match_from answer step =
       subst (λ (s : SearchValue). IsLeftmost s.query s.ignore_case haystack (rest_from haystack at) answer)
@@ -395,6 +416,23 @@ replaced_by_calls written replacements one_for_each holds held writes = record {
       (λ f found bytes before behind next held is _ called.
       writes f found bytes before behind next held is.occurs.is_pattern called);
 }
+
+-- something occurs only where there is a pattern
+pub some_if_occurs : (patterns : List (List ℕ)) (ignore_case : Bool) (haystack : List ℕ) (span : Span)
+    → ¬ NothingOccurs patterns ignore_case haystack span → 0 < length patterns
+some_if_occurs [] ignore_case haystack span not = absurd (not (λ i at occurs. omega (arith, occurs.is_pattern)))
+some_if_occurs (bytes ∷ more) ignore_case haystack span not = omega arith
+
+-- so is one that is longer than so many bytes
+some_if_longer : (n : ℕ) (patterns : List (List ℕ)) → n < longest_of patterns → 0 < length patterns
+some_if_longer n [] longer = absurd (omega arith)
+some_if_longer n (bytes ∷ more) longer = omega arith
+
+-- memory for a list is refused only where there is a pattern
+pub some_if_refused : (search : SearchValue) (haystack : List ℕ) (span : Span) → MayRefuseList search haystack span
+    → 0 < length search.query.patterns
+some_if_refused search haystack span (inl occurs) = some_if_occurs _ _ _ _ occurs
+some_if_refused search haystack span (inr long) = some_if_longer _ search.query.patterns long
 
 -- no pattern is longer than the longest
 pub within_longest : (patterns : List (List ℕ)) (i : ℕ) → length (pattern_at patterns i) ≤ longest_of patterns

@@ -18,7 +18,7 @@ use Rattle.litscan.specs.Fault.{IsReadFault, StopsRead, read_fault}
 use Rattle.litscan.specs.Lines.{HasNoEnd, last_line, with_end}
 use Rattle.litscan.specs.Inside.Passed.{lines_read}
 use Rattle.litscan.specs.Options.{is_enough}
-use Rattle.litscan.specs.Printed.{BeginsWith, Reads, ReadsAll, ReadsTooMany, StopsAtEnough, StopsScan}
+use Rattle.litscan.specs.Printed.{BeginsWith, Reads, ReadsAll, ReadsTooMany, StopsAtEnough}
 use Rattle.litscan.specs.declared.fault.Fault.TheVariants.{OutOfMemory, ReadFailed}
 use Rattle.litscan.specs.declared.fault.Fault.{Fault}
 use Rattle.litscan.proofs.lemmas.Lines.{Other}
@@ -70,11 +70,6 @@ pub read_failed : (failure : Option ErrorKind) (fault : Fault) → IsReadFault f
 read_failed (Some error) fault is = refl
 read_failed None fault is = absurd (cc)
 
--- the fault of a read is one of two
-either_fault : (error : ErrorKind) → (read_fault error ≡ OutOfMemory) ⊎ (read_fault error ≡ ReadFailed)
-either_fault kind.OutOfMemory = inl refl
-either_fault _ = inr refl
-
 -- where a read failed, and not a write, its error is left behind
 pub read_failed_if : (read write : Option ErrorKind) (fault : Fault) → StopsRead read write fault → fault ≡ ReadFailed
     → IsSome read
@@ -82,20 +77,6 @@ read_failed_if read write fault (inl is) failed = read_failed read fault is
 read_failed_if read None fault (inr is) failed = absurd (cc)
 read_failed_if read (Some kind.BrokenPipe) fault (inr is) failed = absurd (cc)
 read_failed_if read (Some _) fault (inr is) failed = absurd (cc)
-
--- any other fault stops a scan
-pub stops_scan : (read write : Option ErrorKind) (fault : Fault) → StopsRead read write fault → fault ≢ ReadFailed
-    → StopsScan read write fault
-stops_scan read write fault (inr is) other = inr is
-stops_scan None write fault (inl is) other = absurd (cc)
-stops_scan (Some error) write fault (inl is) other =
-    elim (either_fault error) [
-      | inl refused ↦ inl (is, some_same (sym is) ∙ refused)
-      | inr failed ↦ absurd (other (some_same (sym is) ∙ failed))
-    ]
-  where
-    some_same : {a b : Fault} → Some a ≡ Some b → a ≡ b
-    some_same same = cc
 
 -- a text that was read until enough lines count
 pub reads_enough : (enough : Bool) (old new : Option (List ℕ)) (text : List ℕ) → enough ≡ true

@@ -1,4 +1,5 @@
-use Rattle.search_promise.proofs.lemmas.Refused.{refused_memory, some_if_refused}
+use Rattle.literal_search.proofs.lemmas.Callers.{some_if_refused}
+use Rattle.search_promise.proofs.lemmas.Refused.{refused_memory}
 use Rattle.search_promise.proofs.search.Goals as goal
 
 pub returns-in_err-list-clause-refused : goal.returns-in_err-list-clause-refused

@@ -1,5 +1,5 @@
 //! Callers that look for words, each run once.
-use literal_examples::confirmed::first_at_line_start;
+use literal_examples::confirmed::{call_at, first_at_line_start};
 use literal_examples::words::{
     all_that_occurs, has_one_of_array, has_one_of_slice, has_one_of_texts, has_one_of_vec,
     occurrences_of_at_least,
@@ -45,5 +45,17 @@ fn finds_the_first_at_a_line_start(rt: HostRuntime) -> Result<(), Fail> {
     let found = first_at_line_start(&search, b"xabc abc\nabcd").ok_or("none is found")?;
     assert!(rt; found.pattern().as_usize() == 1 && found.range() == (9..12));
     assert!(rt; first_at_line_start(&search, b"xabc\n ab").is_none());
+    Ok(())
+}
+
+#[test]
+fn call_is_of_the_first_name_before_a_bracket(rt: HostRuntime) -> Result<(), Fail> {
+    let names = [b"foo".as_slice(), b"foo1", b"foo(", b"foo1"];
+    let search = Search::new(rt.alloc(), MatchKind::LeftmostLongest, true, names)?;
+    let found = call_at(&search, b"a Foo1()", 2).ok_or("no call is found")?;
+    assert!(rt; found.pattern().as_usize() == 1 && found.range() == (2..6));
+    let first = call_at(&search, b"foo((", 0).ok_or("no call is found")?;
+    assert!(rt; first.pattern().as_usize() == 0);
+    assert!(rt; call_at(&search, b"foo1", 0).is_none() && call_at(&search, b"foo1()", 1).is_none());
     Ok(())
 }

@@ -166,10 +166,10 @@ returns-then-not-fed-clause-scanned g c =
     let shown = c.as_slice-line.ensures.value in
     let number = c.loop-options.lines + c.in-Ok.ahead.lines + 1 in
     let prints = PrintsUnlessSilent (is_silent c.args.options) c.args.search.now c.args.options c.args.name.now number
-    c.in-Some.start in
+    (c.loop-options.offset + c.in-Ok.ahead.bytes) in
     subst (Answers c.args.search.now c.args.options c.args.name.now _ _ _ _) (sym c.whole-then-not-fed.ensures)
-    (ended_so_far here still _ _ line taken.0 fed number c.in-Some.start c.in_ok-taken.taken
-    c.if-not-fed.true refl (omega (arith, c.in-Some.ensures)) c.in-Ok-read_line.ensures.whole
+    (ended_so_far here still _ _ line taken.0 fed number (c.loop-options.offset + c.in-Ok.ahead.bytes)
+    c.in_ok-taken.taken c.if-not-fed.true refl (omega (arith, c.in-Some.ensures)) c.in-Ok-read_line.ensures.whole
     c.in-Ok-read_line.ensures.bytes c.in-Ok-read_line.ensures.ended taken.1
     (subst (λ l. prints (lines_read fed l) taken.0) shown taken.2)
     (c.in_ok-taken.ensures.counted
@@ -189,12 +189,12 @@ loop-options-preserved g c =
     let shown = c.as_slice-line.ensures.value in
     let number = c.loop-options.lines + c.in-Ok.ahead.lines + 1 in
     let prints = PrintsUnlessSilent (is_silent c.args.options) c.args.search.now c.args.options c.args.name.now number
-    c.in-Some.start in
+    (c.loop-options.offset + c.in-Ok.ahead.bytes) in
     record {
       seen = (c.loop-options.invariant.seen ++ takes.2.taken) ++ line ∷ [];
       out = (c.loop-options.invariant.out ++ takes.2.out) ++ taken.0;
-      so_far = read_on here still line taken.0 fed number c.in-Some.start c.in-Some.end c.in_ok-taken.taken
-          c.if-not-fed.false refl (omega (arith, c.in-Some.ensures))
+      so_far = read_on here still line taken.0 fed number (c.loop-options.offset + c.in-Ok.ahead.bytes) c.in-Some.end
+          c.in_ok-taken.taken c.if-not-fed.false refl (omega (arith, c.in-Some.ensures))
           (omega (arith, c.in-Some.ensures, c.as_slice-line.ensures.len)) c.in-Ok-read_line.ensures.whole
           c.in-Ok-read_line.ensures.bytes taken.1 (subst (λ l. prints (lines_read fed l) taken.0) shown taken.2)
           (c.in_ok-taken.ensures.counted
