@@ -1,6 +1,6 @@
 -- Prefixes among sorted texts. For `prefixes`.
-use Rattle.std.proofs.Common.{◌≡◌, ◌≢◌, ◌⊎◌, ◌∙◌, ◌+◌, ◌-◌, ◌<◌, ◌≤◌, ◌++◌, ◌∷◌, [], ℕ, Bool, List, None, Option, Some, ap, append-nil}
-use Rattle.std.proofs.Common.{MatchOption, append_assoc, arith, drop, false, get_or, inl, inr, length, map, min, nat_eq, refl, subst, suc, sym, true}
+use Rattle.std.proofs.Common.{◌≡◌, ◌≢◌, ◌∙◌, ◌+◌, ◌-◌, ◌<◌, ◌≤◌, ◌++◌, ◌∷◌, [], ℕ, Bool, List, None, Option, Some, ap, append-nil}
+use Rattle.std.proofs.Common.{MatchOption, append_assoc, arith, drop, false, get_or, inl, inr, length, min, refl, subst, suc, sym, true}
 use Rattle.std.proofs.lemmas.Bool.{cases_lt, false≢true}
 use Rattle.std.proofs.lemmas.Bool.Decides.{Decides-eqb}
 use Rattle.std.proofs.lemmas.Slice.Eq.{starts_is}
@@ -107,19 +107,21 @@ step_back words sorted index at inside upto fails answer last = by answer last
     earlier k below begins =
         let least = upto.1 k below begins in
         let differs : k ≢ at = λ same. fails (subst (λ n. Begins (pattern_at words index) (pattern_at words n)) same begins) in
-        let before : k < at = omega (arith, least, differs) in
-        (
+        let before : k < at = omega (arith, least, differs) in (
           before,
           begins_between (pattern_at words index) (pattern_at words at) (pattern_at words k) begins
-          (sorted k at (omega (arith, before)) (omega (arith, inside, upto.0)))
-          (sorted at index (omega (arith, upto.0)) inside),
+              (sorted k at (omega (arith, before)) (omega (arith, inside, upto.0)))
+              (sorted at index (omega (arith, upto.0)) inside),
         )
 
     by : (answer : Option ℕ) → IsLastPrefix words at answer → IsUpTo words index answer
     by None none = λ k below begins.
         let (before, own) = earlier k below begins in none k before own
-    by (Some last) is = (omega (arith, is.0, upto.0), λ k below begins.
-        let (before, own) = earlier k below begins in is.2 k before own)
+    by (Some last) is = (
+      omega (arith, is.0, upto.0),
+      λ k below begins.
+          let (before, own) = earlier k below begins in is.2 k before own,
+    )
 
 module _ (texts words : List (List ℕ)) (numbers : List ℕ) (sorted : AreSorted texts words numbers) (index : ℕ)
     (inside : index < length words) where
@@ -278,7 +280,7 @@ are_sorted texts given all words numbers moved rises = record {
         held.0,
         omega (arith, held.1, many),
         number_at all held.0 (get_or given i d) held.1
-        ∙ (ap (λ (n : Numbered). n.number) held.2 ∙ (sym (number_at given i d inside) ∙ number_is i below)),
+            ∙ (ap (λ (n : Numbered). n.number) held.2 ∙ (sym (number_at given i d inside) ∙ number_is i below)),
       );
   ordered = λ j k upto below.
       let inside : k < length all = omega (arith, below, many) in
@@ -323,7 +325,7 @@ are_sorted texts given all words numbers moved rises = record {
         let is = sym (number_at given i d inside) ∙ number_is i below in (
           omega (arith, is, below),
           sym (word_at given i d inside)
-          ∙ (ap (λ (l : List (List ℕ)). pattern_at l i) words ∙ ap (pattern_at texts) (sym is)),
+              ∙ (ap (λ (l : List (List ℕ)). pattern_at l i) words ∙ ap (pattern_at texts) (sym is)),
         )))
 
 -- the last prefixes of one more

@@ -1,13 +1,13 @@
 -- Which pattern replaces another, and that a search by these finds the best.
-use Rattle.std.proofs.Common.{◌≡◌, ◌≢◌, ◌⊎◌, ℕ, ◌-◌, ◌<◌, ◌≤◌, ◌^◌, ◌∙◌, List, [], ◌∷◌, ◌++◌, Bool, true, false}
-use Rattle.std.proofs.Common.{Some, inl, inr, ap, arith, cond, get_or, length, map, min, nat_eq, refl, reverse, subst}
+use Rattle.std.proofs.Common.{◌≡◌, ◌⊎◌, ℕ, ◌<◌, ◌≤◌, ◌∙◌, List, [], ◌∷◌, Bool, true, false}
+use Rattle.std.proofs.Common.{Some, inl, inr, ap, arith, cond, get_or, length, map, nat_eq, refl, reverse, subst}
 use Rattle.std.proofs.Common.{suc, sym, zero}
 use Rattle.std.proofs.lemmas.Bool.{cases_lt, false≢true}
 use Rattle.std.proofs.lemmas.List.{ext_get_or, get_or-map, get_or_default, length-map}
-use Rattle.std.proofs.lemmas.List.Elements.{All-contains, All-nil, All-push, All-weaker}
+use Rattle.std.proofs.lemmas.List.Elements.{All-weaker}
 use Rattle.std.proofs.lemmas.List.Folds.{Any-from_list_any, list_any_at}
 use Rattle.std.proofs.lemmas.List.FromFn.{get_or-range_with_len, length-range_with_len}
-use Rattle.std.specs.List.{All, find, range_with_len, starts_with}
+use Rattle.std.specs.List.{find, range_with_len, starts_with}
 use Rattle.std.specs.Option.{unwrap_or}
 use Rattle.literal_base.specs.Leftmost.{IsBetter}
 use Rattle.literal_base.specs.Occurs.{NoneIsEmpty, pattern_at}
@@ -16,15 +16,12 @@ use Rattle.literal_base.specs.declared.packed.MatchKind.TheVariants.{LeftmostFir
 use Rattle.literal_search.specs.Inside.Classes.{symbols_in}
 use Rattle.literal_search.specs.Inside.Prefixes.{AreFirstPrefixes}
 use Rattle.literal_search.specs.Inside.Shadowed.{IsFirstOf, chosen_by}
-use Rattle.literal_search.specs.Inside.Suffixes.{HasSuffix, HasUpTo, IsFirstSuffix, IsOutputLink, IsSuffix}
+use Rattle.literal_search.specs.Inside.Suffixes.{HasSuffix, IsFirstSuffix, IsSuffix}
 use Rattle.literal_search.specs.SearchValue.{first_prefix, reversed, unshadowed}
 use Rattle.literal_search.specs.States.{HasTooManyStates}
-use Rattle.literal_search.specs.Table.{nothing}
-use Rattle.literal_search.specs.Words.{begins_one, ending}
-use Rattle.literal_search.proofs.lemmas.Chains.{up_to_first, up_to_more}
-use Rattle.literal_search.proofs.lemmas.FirstSuffix.{end_of_itself, ends_length, ends_on, ends_same, ends_within}
-use Rattle.literal_search.proofs.lemmas.FirstSuffix.{first_ends}
-use Rattle.literal_search.proofs.lemmas.Reversed.{back_at, back_count, back_long, end_is_prefix, prefix_is_end}
+use Rattle.literal_search.specs.Words.{begins_one}
+use Rattle.literal_search.proofs.lemmas.FirstSuffix.{end_of_itself, ends_on, ends_within}
+use Rattle.literal_search.proofs.lemmas.Reversed.{back_at, back_count, end_is_prefix, prefix_is_end}
 
 -- the first of some texts that passes a test, up to one
 pub record FindsFirst (test : List ℕ → Bool) (texts : List (List ℕ)) (upto : ℕ) : Type 0 where

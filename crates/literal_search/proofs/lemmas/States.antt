@@ -135,13 +135,12 @@ number_of_prefix (first ∷ more) zero symbol text below begins =
     let word = symbol ∷ text in
     let split = (starts_is Decides-eqb first word _ refl).0 begins in
     let total = sum_by-cons length first more in
-    let long = ap (λ (l : List ℕ). length l) split ∙ length-append word (drop (length word) first) in
-    (
+    let long = ap (λ (l : List ℕ). length l) split ∙ length-append word (drop (length word) first) in (
       length word,
       omega arith,
       omega (arith, long, total),
       prefix_here first more (length word) (omega (arith, long))
-      ∙ (ap (take (length word)) split ∙ take-append_seam word (drop (length word) first)),
+          ∙ (ap (take (length word)) split ∙ take-append_seam word (drop (length word) first)),
     )
 number_of_prefix (first ∷ more) (suc i) symbol text below begins =
     let (n, some, few, is) = number_of_prefix more i symbol text (omega (arith, below)) begins in

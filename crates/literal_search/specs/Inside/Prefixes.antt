@@ -1,5 +1,5 @@
 -- The first of some texts that is a prefix of each, and the last one before each among sorted ones.
-use Rattle.std.specs.Prelude.{◌≡◌, ◌≢◌, ℕ, ◌<◌, ◌≤◌, [], List, MatchOption, None, Option, length, map, nat_eq, slice_index}
+use Rattle.std.specs.Prelude.{◌≡◌, ◌≢◌, ℕ, ◌<◌, ◌≤◌, List, MatchOption, None, Option, length, map, nat_eq, slice_index}
 use Rattle.std.specs.Prelude.{slice_index_or, true}
 use Rattle.std.specs.Cmp.Lexicographic.{slice_cmp}
 use Rattle.std.specs.List.{starts_with}

@@ -1,5 +1,4 @@
-use Rattle.std.proofs.Common.{◌≡◌, ◌∙◌, ◌+◌, ◌<◌, ℕ, List, None, Option, Some, ap, arith, get_or, length, map, min, set, subst, sym}
-use Rattle.std.proofs.lemmas.Bool.{cases_lt}
+use Rattle.std.proofs.Common.{◌≡◌, ◌∙◌, ◌+◌, ◌<◌, ℕ, List, Option, ap, arith, get_or, length, map, min, set, subst, sym}
 use Rattle.std.proofs.lemmas.List.{get_or_default, length-map, length-set, length_push}
 use Rattle.std.specs.Global.{Vec}
 use Rattle.literal_base.specs.Occurs.{pattern_at}

@@ -1,9 +1,9 @@
-use Rattle.std.proofs.Common.{◌≡◌, ◌∙◌, ℕ, List, None, Option, Some, ap, arith, get_or, nat_eq, subst, sym}
+use Rattle.std.proofs.Common.{◌∙◌, ℕ, List, None, Option, ap, arith, get_or, nat_eq, subst, sym}
 use Rattle.std.proofs.lemmas.Bool.{false≢true}
 use Rattle.std.proofs.lemmas.List.{length-map}
 use Rattle.std.specs.List.{starts_with}
 use Rattle.literal_base.specs.Occurs.{pattern_at}
-use Rattle.literal_search.specs.Inside.Prefixes.{Begins, words_in}
+use Rattle.literal_search.specs.Inside.Prefixes.{words_in}
 use Rattle.literal_search.specs.declared.prefixes.Numbered.{Numbered}
 use Rattle.literal_search.proofs.lemmas.Prefixes.{IsUpTo, step_back, word_at}
 use Rattle.literal_search.proofs.prefixes.last_prefix.Goals as goal

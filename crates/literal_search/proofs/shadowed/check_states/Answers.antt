@@ -1,4 +1,4 @@
-use Rattle.std.proofs.Common.{◌+◌, ◌*◌, ◌-◌, ◌≤◌, ◌^◌, length, map, subst, sum_by, sym, ℕ}
+use Rattle.std.proofs.Common.{◌+◌, ◌*◌, ◌-◌, ◌≤◌, ◌^◌, map, subst, sym, ℕ}
 use Rattle.std.specs.Global.{Vec}
 use Rattle.literal_search.specs.Inside.Shadowed.{texts_by}
 use Rattle.literal_search.specs.SearchValue.{reversed}
