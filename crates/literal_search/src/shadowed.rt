@@ -39,11 +39,7 @@ pub(crate) fn backward_rows(
 
 /// The rows for the reversed patterns, where each pattern that has others as prefixes is replaced by the first of them
 /// in the list.
-fn first_rows(
-    alloc: Global,
-    classes: &Classes,
-    patterns: &[Vec<u8>],
-) -> Result<Vec<u32>, GrowError>
+fn first_rows(alloc: Global, classes: &Classes, patterns: &[Vec<u8>]) -> Result<Vec<u32>, GrowError>
     requires classes { AreClasses classes.now.table classes.now.width }
     requires patterns { CanBeKept (map (λ pattern. pattern.items) patterns.now) }
     ensures rows { IfOk result (λ rows. AreRowsFor (reversed (unshadowed MatchKind.LeftmostFirst
@@ -86,11 +82,7 @@ fn need_few_states(patterns: &[Vec<u8>], width: usize) -> bool
 }
 
 /// The rows for all reversed patterns.
-fn all_rows(
-    alloc: Global,
-    classes: &Classes,
-    patterns: &[Vec<u8>],
-) -> Result<Vec<u32>, GrowError>
+fn all_rows(alloc: Global, classes: &Classes, patterns: &[Vec<u8>]) -> Result<Vec<u32>, GrowError>
     requires classes { AreClasses classes.now.table classes.now.width }
     requires few { length patterns.now ≤ 2 ^ 31 - 1 }
     ensures rows { IfOk result (λ rows. AreRowsFor (reversed (texts_by classes.now.table patterns.now))
