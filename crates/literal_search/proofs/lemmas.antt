@@ -29,6 +29,7 @@ pub mod Overlapping
 pub mod OverlappingStreamed
 pub mod OverlappingStreams
 pub mod Packed
+pub mod Prefixes
 pub mod Prepared
 pub mod PreparedStates
 pub mod Recognised

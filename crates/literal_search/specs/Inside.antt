@@ -16,6 +16,7 @@ pub mod NextEnd
 pub mod Overlapping
 pub mod OverlappingStream
 pub mod Packed
+pub mod Prefixes
 pub mod Prepared
 pub mod Rewriting
 pub mod Rows

@@ -47,7 +47,7 @@ const ROW_LEN: usize = 257;
 const MOST_ROOM: usize = 1 << 24;
 
 /// The largest length of all rows.
-const LIMIT: usize = (1 << 31) - 1;
+pub(crate) const LIMIT: usize = (1 << 31) - 1;
 
 /// Patterns, whose bytes are read as their classes.
 #[derive(Clone, Copy)]
@@ -527,13 +527,12 @@ fn code_for(row: u32, ending: u32) -> u32
     if ending == NOTHING { row } else { row + ENDS }
 }
 
-/// Builds the rows for patterns, in classes below the width. They reuse the memory of a list that is no longer needed.
+/// Builds the rows for patterns, in classes below the width.
 pub fn grow(
     alloc: Global,
     classes: &[u8; 256],
     width: usize,
     patterns: &[Vec<u8>],
-    unneeded: Vec<u32>,
 ) -> Result<Vec<u32>, GrowError>
     requires classes { AreClasses classes.now width }
     requires few { length patterns.now ≤ 2 ^ 31 - 1 }
@@ -554,7 +553,7 @@ pub fn grow(
     if texts.has_too_long() {
         return Err(GrowError::TooManyStates);
     }
-    let mut construction = start(alloc, texts, unneeded)?;
+    let mut construction = start(alloc, texts)?;
     let (mut classes_after, mut row) = (Vec::new(alloc), [0; ROW_LEN]);
     let mut state = 0;
     while state < construction.states.len() {
@@ -565,19 +564,14 @@ pub fn grow(
 }
 
 /// The state of the empty word, without a row.
-fn start<'p>(
-    alloc: Global,
-    texts: Texts<'p>,
-    unneeded: Vec<u32>,
-) -> Result<Construction<'p>, AllocError>
+fn start<'p>(alloc: Global, texts: Texts<'p>) -> Result<Construction<'p>, AllocError>
     requires { AreTexts texts }
     ensures grows { IfOk result (λ construction. Grows construction) }
     ensures start { IfOk result (λ construction. construction.rows.items ≡ []) }
     ensures words { IfOk result (λ construction. words_of construction ≡ [] ∷ []) }
     ensures texts { IfOk result (λ construction. construction.texts ≡ texts.entry) }
 {
-    let mut rows = unneeded;
-    rows.clear();
+    let mut rows = Vec::new(alloc);
     rows.reserve(texts.first_room())?;
     let lists = numbers(alloc, texts.patterns.len())?;
     let mut states = Vec::new(alloc);
@@ -598,7 +592,7 @@ fn start<'p>(
 }
 
 /// The numbers below a bound.
-fn numbers(alloc: Global, bound: usize) -> Result<Vec<u32>, AllocError>
+pub(crate) fn numbers(alloc: Global, bound: usize) -> Result<Vec<u32>, AllocError>
     requires { bound ≤ 2 ^ 31 - 1 }
     ensures { IfOk result (λ numbers. numbers.items ≡ range_with_len 0 bound) }
 {

@@ -22,6 +22,7 @@ mod overlapping;
 mod overlapping_stream;
 mod patterns;
 mod position;
+mod prefixes;
 mod prepared;
 mod prepared_overlapping;
 mod prepared_search;

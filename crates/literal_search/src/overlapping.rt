@@ -319,13 +319,7 @@ fn numbers_of(alloc: Global, ignore_case: bool, patterns: &[Vec<u8>]) -> Result<
         return Ok(Numbers::for_none(alloc, true));
     }
     let classes = classes_for(ignore_case, patterns);
-    let rows = grow(
-        alloc,
-        &classes.table,
-        classes.width,
-        patterns,
-        Vec::new(alloc),
-    )?;
+    let rows = grow(alloc, &classes.table, classes.width, patterns)?;
     let recognised = Recognised {
         classes: &classes.table,
         width: classes.width,

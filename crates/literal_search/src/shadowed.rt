@@ -1,16 +1,17 @@
 //! Patterns that never match, because an earlier one is their prefix and is preferred. A search uses that one instead.
-ghost use Rattle.std.specs.Prelude.{◌≡◌, ◌<◌, ◌≤◌, ℕ, IfErr, IfOk, Some, false, length, map, reverse, slice_index};
+ghost use Rattle.std.specs.Prelude.{◌≡◌, ◌+◌, ◌*◌, ◌-◌, ◌<◌, ◌≤◌, ◌^◌, ℕ, IfErr, IfOk, length, map, reverse, slice_index};
+ghost use Rattle.std.specs.Prelude.{sum_by, true};
 ghost use Rattle.literal_base.specs.Occurs.{pattern_at};
 ghost use Rattle.literal_search.specs.SearchValue.{CanBeKept, reversed, unshadowed};
 ghost use Rattle.literal_search.specs.States.{HasTooManyStates};
+ghost use Rattle.literal_search.specs.Table.{stride_of};
 ghost use Rattle.literal_search.specs.Inside.Classes.{AreClasses};
-ghost use Rattle.literal_search.specs.Inside.Shadowed.{AreFirst, AreRowsFor, IsFirstOf, texts_by};
-ghost use Rattle.literal_search.specs.Inside.Lists.{AreLongest, AreOutputLinks, Recognise, symbols_of};
+ghost use Rattle.literal_search.specs.Inside.Shadowed.{AreRowsFor, chosen_by, texts_by};
 
 use crate::classes::Classes;
-use crate::grow::{GrowError, grow};
-use crate::suffixes::Recognised;
-use crate::walk::NOTHING;
+use crate::grow::{GrowError, LIMIT, grow, numbers};
+use crate::prefixes::first_prefixes;
+use crate::total_bytes;
 use literal_base::packed::MatchKind;
 use std::alloc::{AllocError, Global};
 
@@ -30,102 +31,90 @@ pub(crate) fn backward_rows(
     ensures too_many { IfErr result (λ error. error ≡ GrowError.TooManyStates
         → HasTooManyStates (reversed (texts_by classes.now.table patterns.now)) classes.now.width) }
 {
-    let copies = backward_copies(alloc, patterns)?;
-    let backward = copies.as_slice();
-    let rows = grow(
-        alloc,
-        &classes.table,
-        classes.width,
-        backward,
-        Vec::new(alloc),
-    )?;
     match kind {
-        MatchKind::LeftmostFirst => first_rows(alloc, classes, patterns, backward, rows),
-        MatchKind::LeftmostLongest => Ok(rows),
+        MatchKind::LeftmostFirst => first_rows(alloc, classes, patterns),
+        MatchKind::LeftmostLongest => all_rows(alloc, classes, patterns),
     }
 }
 
-/// The rows for the reversed patterns, if no pattern has an earlier one as a prefix. Otherwise the rows of another
-/// automaton: in it, each pattern with such prefixes is replaced by the first of them in the list.
-fn first_rows(
-    alloc: Global,
-    classes: &Classes,
-    patterns: &[Vec<u8>],
-    lists: &[Vec<u8>],
-    rows: Vec<u32>,
-) -> Result<Vec<u32>, GrowError>
+/// The rows for the reversed patterns, where each pattern that has others as prefixes is replaced by the first of them
+/// in the list.
+fn first_rows(alloc: Global, classes: &Classes, patterns: &[Vec<u8>]) -> Result<Vec<u32>, GrowError>
     requires classes { AreClasses classes.now.table classes.now.width }
     requires patterns { CanBeKept (map (λ pattern. pattern.items) patterns.now) }
-    requires lists { map (λ pattern. pattern.items) lists.now
-        ≡ reversed (map (λ pattern. pattern.items) patterns.now) }
-    requires rows { AreRowsFor (reversed (texts_by classes.now.table patterns.now)) classes.now.width rows.items }
     ensures rows { IfOk result (λ rows. AreRowsFor (reversed (unshadowed MatchKind.LeftmostFirst
         (texts_by classes.now.table patterns.now))) classes.now.width rows.items) }
+    ensures few { IfOk result (λ _. ¬ HasTooManyStates (reversed (texts_by classes.now.table patterns.now))
+        classes.now.width) }
     ensures too_many { IfErr result (λ error. error ≡ GrowError.TooManyStates
         → HasTooManyStates (reversed (texts_by classes.now.table patterns.now)) classes.now.width) }
 {
-    let recognised = Recognised {
-        classes: &classes.table,
-        width: classes.width,
-        rows: &rows,
-        patterns: lists,
-    };
-    let firsts = recognised.first_suffixes(alloc)?;
-    if !has_shadowed(patterns, &firsts) {
-        return Ok(rows);
-    }
-    let copies = copies_of(alloc, patterns, &firsts)?;
-    grow(alloc, &classes.table, classes.width, &copies, rows)
+    check_states(alloc, classes, patterns)?;
+    let firsts = first_prefixes(alloc, &classes.table, patterns)?;
+    chosen_rows(alloc, classes, patterns, &firsts)
 }
 
-impl<'p> Recognised<'p> {
-    /// For each pattern the smallest number of a pattern that is a suffix of it.
-    pub(crate) fn first_suffixes(&self, alloc: Global) -> Result<Vec<u32>, AllocError>
-        requires { Recognise self.now }
-        ensures { IfOk result (λ firsts. AreFirst (symbols_of self.now) firsts.items
-            (length self.now.patterns.now)) }
-    {
-        let longest = self.longest(alloc)?;
-        let links = self.links(alloc, &longest)?;
-        let mut firsts = Vec::new(alloc);
-        for pattern in 0..self.patterns.len() {
-            firsts.push(self.first_suffix(&links, &longest, pattern))?;
-        }
-        Ok(firsts)
-    }
-
-    /// The smallest number of a pattern that is a suffix of this one.
-    fn first_suffix(&self, links: &[u32], longest: &[u32], pattern: usize) -> u32
-        requires recognise { Recognise self.now }
-        requires longest { AreLongest (symbols_of self.now) longest.now (length self.now.patterns.now) }
-        requires links { AreOutputLinks (symbols_of self.now) links.now 0 }
-        requires is_pattern { pattern < length self.now.patterns.now }
-        ensures { IsFirstOf (symbols_of self.now) (pattern_at (symbols_of self.now) pattern) result }
-    {
-        let mut next = longest[pattern];
-        let mut smallest = next;
-        while next != NOTHING {
-            smallest = smallest.min(next);
-            next = links[next as usize];
-        }
-        smallest
-    }
-}
-
-/// Whether a pattern is longer than the one that replaces it.
-fn has_shadowed(patterns: &[Vec<u8>], firsts: &[u32]) -> bool
-    requires long { length firsts.now ≡ length patterns.now }
-    requires below { (i : ℕ) → i < length patterns.now → slice_index firsts.now i < length patterns.now }
-    ensures { result ≡ false → (i : ℕ) → i < length patterns.now
-        → length (pattern_at (map (λ pattern. pattern.items) patterns.now) i)
-        ≤ length (pattern_at (map (λ pattern. pattern.items) patterns.now) (slice_index firsts.now i)) }
+/// An error if all patterns have too many states, also those that never match. Only where these might be too many, the
+/// automaton is built to tell.
+fn check_states(alloc: Global, classes: &Classes, patterns: &[Vec<u8>]) -> Result<(), GrowError>
+    requires classes { AreClasses classes.now.table classes.now.width }
+    requires few { length patterns.now ≤ 2 ^ 31 - 1 }
+    ensures few { IfOk result (λ _. ¬ HasTooManyStates (reversed (texts_by classes.now.table patterns.now))
+        classes.now.width) }
+    ensures too_many { IfErr result (λ error. error ≡ GrowError.TooManyStates
+        → HasTooManyStates (reversed (texts_by classes.now.table patterns.now)) classes.now.width) }
 {
-    for i in 0..patterns.len() {
-        if patterns[firsts[i] as usize].len() < patterns[i].len() {
-            return true;
-        }
+    if need_few_states(patterns, classes.width) {
+        return Ok(());
     }
-    false
+    let rows = all_rows(alloc, classes, patterns)?;
+    drop(rows);
+    Ok(())
+}
+
+/// Whether the patterns are too short to have too many states.
+fn need_few_states(patterns: &[Vec<u8>], width: usize) -> bool
+    requires { width ≤ 256 }
+    ensures { result ≡ true → (sum_by length (map (λ pattern. pattern.items) patterns.now) + 1) * stride_of width
+        ≤ 2 ^ 31 - 1 }
+{
+    total_bytes(patterns) < (LIMIT / (width + 1)) as u128
+}
+
+/// The rows for all reversed patterns.
+fn all_rows(alloc: Global, classes: &Classes, patterns: &[Vec<u8>]) -> Result<Vec<u32>, GrowError>
+    requires classes { AreClasses classes.now.table classes.now.width }
+    requires few { length patterns.now ≤ 2 ^ 31 - 1 }
+    ensures rows { IfOk result (λ rows. AreRowsFor (reversed (texts_by classes.now.table patterns.now))
+        classes.now.width rows.items) }
+    ensures few { IfOk result (λ _. ¬ HasTooManyStates (reversed (texts_by classes.now.table patterns.now))
+        classes.now.width) }
+    ensures too_many { IfErr result (λ error. error ≡ GrowError.TooManyStates
+        → HasTooManyStates (reversed (texts_by classes.now.table patterns.now)) classes.now.width) }
+{
+    let all = numbers(alloc, patterns.len())?;
+    chosen_rows(alloc, classes, patterns, &all)
+}
+
+/// The rows for the reversed patterns with these numbers.
+fn chosen_rows(
+    alloc: Global,
+    classes: &Classes,
+    patterns: &[Vec<u8>],
+    numbers: &[u32],
+) -> Result<Vec<u32>, GrowError>
+    requires classes { AreClasses classes.now.table classes.now.width }
+    requires few { length numbers.now ≤ 2 ^ 31 - 1 }
+    requires numbers { (i : ℕ) → i < length numbers.now → slice_index numbers.now i < length patterns.now }
+    ensures rows { IfOk result (λ rows. AreRowsFor
+        (reversed (chosen_by (texts_by classes.now.table patterns.now) numbers.now)) classes.now.width rows.items) }
+    ensures few { IfOk result (λ _. ¬ HasTooManyStates
+        (reversed (chosen_by (texts_by classes.now.table patterns.now) numbers.now)) classes.now.width) }
+    ensures too_many { IfErr result (λ error. error ≡ GrowError.TooManyStates → HasTooManyStates
+        (reversed (chosen_by (texts_by classes.now.table patterns.now) numbers.now)) classes.now.width) }
+{
+    let copies = copies_of(alloc, patterns, numbers)?;
+    grow(alloc, &classes.table, classes.width, &copies)
 }
 
 /// Reversed copies of the patterns with these numbers.
@@ -141,18 +130,6 @@ fn copies_of(
     let mut all = Vec::new(alloc);
     for number in numbers {
         all.push(backward_copy(alloc, &patterns[*number as usize])?)?;
-    }
-    Ok(all)
-}
-
-/// Reversed copies of all patterns.
-fn backward_copies(alloc: Global, patterns: &[Vec<u8>]) -> Result<Vec<Vec<u8>>, AllocError>
-    ensures { IfOk result (λ all. map (λ pattern. pattern.items) all.items
-        ≡ reversed (map (λ pattern. pattern.items) patterns.now)) }
-{
-    let mut all = Vec::new(alloc);
-    for pattern in patterns {
-        all.push(backward_copy(alloc, pattern)?)?;
     }
     Ok(all)
 }

@@ -1,10 +1,11 @@
 -- Reversed texts: a prefix of one becomes a suffix.
 use Rattle.std.proofs.Common.{◌≡◌, ℕ, ◌<◌, List, [], ◌∷◌, ◌++◌, length, get_or, drop, map}
-use Rattle.std.proofs.Common.{nat_eq, reverse, refl, sym, ap, ◌∙◌, arith, true}
+use Rattle.std.proofs.Common.{nat_eq, reverse, sum_by, refl, sym, ap, ◌∙◌, arith, true}
 use Rattle.std.proofs.lemmas.Bool.{cases_lt}
 use Rattle.std.proofs.lemmas.Bool.Decides.{Decides-eqb}
 use Rattle.std.proofs.lemmas.List.{get_or-map, get_or_past, length-map, length-reverse, map-append, reverse-append}
 use Rattle.std.proofs.lemmas.List.{reverse-reverse}
+use Rattle.std.proofs.lemmas.List.Sums.{sum_by-cons}
 use Rattle.std.proofs.lemmas.Slice.Eq.{starts_is}
 use Rattle.std.specs.Global.{Global}
 use Rattle.std.specs.List.{starts_with}
@@ -40,6 +41,21 @@ some_back texts some i d below =
     let long = some i [] inside in
     let read = get_or-map (λ (text : List ℕ). reverse text) texts i [] d inside in
     omega (arith, long, ap (λ (l : List ℕ). length l) read, length-reverse (get_or texts i []))
+
+-- the texts of reversed patterns are as long as these together
+pub back_total : (classes : List ℕ) (patterns : List (List ℕ))
+    → sum_by length (reversed (map (symbols_in classes) patterns)) ≡ sum_by length patterns
+back_total classes [] = refl
+back_total classes (bytes ∷ more) =
+    let text = symbols_in classes bytes in
+    omega (
+      arith,
+      sum_by-cons length (reverse text) (reversed (map (symbols_in classes) more)),
+      sum_by-cons length bytes more,
+      length-reverse text,
+      length-map bytes (λ byte. get_or classes byte 0),
+      back_total classes more,
+    )
 
 -- the texts of reversed patterns
 pub map_reversed : (classes : List ℕ) (patterns : List (List ℕ))

@@ -1,28 +1,27 @@
 -- Which pattern replaces another, and that a search by these finds the best.
-use Rattle.std.proofs.Common.{◌≡◌, ◌≢◌, ◌⊎◌, ℕ, ◌-◌, ◌<◌, ◌≤◌, ◌^◌, ◌∙◌, List, [], ◌∷◌, ◌++◌, Bool, true, false}
-use Rattle.std.proofs.Common.{Some, inl, inr, ap, arith, cond, get_or, length, map, min, nat_eq, refl, reverse, subst}
+use Rattle.std.proofs.Common.{◌≡◌, ◌⊎◌, ℕ, ◌<◌, ◌≤◌, ◌∙◌, List, [], ◌∷◌, Bool, true, false}
+use Rattle.std.proofs.Common.{Some, inl, inr, ap, arith, cond, get_or, length, map, nat_eq, refl, reverse, subst}
 use Rattle.std.proofs.Common.{suc, sym, zero}
 use Rattle.std.proofs.lemmas.Bool.{cases_lt, false≢true}
 use Rattle.std.proofs.lemmas.List.{ext_get_or, get_or-map, get_or_default, length-map}
-use Rattle.std.proofs.lemmas.List.Elements.{All-contains, All-nil, All-push, All-weaker}
+use Rattle.std.proofs.lemmas.List.Elements.{All-weaker}
 use Rattle.std.proofs.lemmas.List.Folds.{Any-from_list_any, list_any_at}
-use Rattle.std.specs.List.{All, find, starts_with}
+use Rattle.std.proofs.lemmas.List.FromFn.{get_or-range_with_len, length-range_with_len}
+use Rattle.std.specs.List.{find, range_with_len, starts_with}
 use Rattle.std.specs.Option.{unwrap_or}
 use Rattle.literal_base.specs.Leftmost.{IsBetter}
 use Rattle.literal_base.specs.Occurs.{NoneIsEmpty, pattern_at}
 use Rattle.literal_base.specs.declared.packed.MatchKind.{MatchKind}
 use Rattle.literal_base.specs.declared.packed.MatchKind.TheVariants.{LeftmostFirst, LeftmostLongest}
 use Rattle.literal_search.specs.Inside.Classes.{symbols_in}
-use Rattle.literal_search.specs.Inside.Shadowed.{AreFirst, IsFirstOf}
-use Rattle.literal_search.specs.Inside.Suffixes.{HasSuffix, HasUpTo, IsFirstSuffix, IsOutputLink, IsSuffix}
+use Rattle.literal_search.specs.Inside.Prefixes.{AreFirstPrefixes}
+use Rattle.literal_search.specs.Inside.Shadowed.{IsFirstOf, chosen_by}
+use Rattle.literal_search.specs.Inside.Suffixes.{HasSuffix, IsFirstSuffix, IsSuffix}
 use Rattle.literal_search.specs.SearchValue.{first_prefix, reversed, unshadowed}
 use Rattle.literal_search.specs.States.{HasTooManyStates}
-use Rattle.literal_search.specs.Table.{nothing}
-use Rattle.literal_search.specs.Words.{begins_one, ending}
-use Rattle.literal_search.proofs.lemmas.Chains.{up_to_first, up_to_more}
-use Rattle.literal_search.proofs.lemmas.FirstSuffix.{end_of_itself, ends_length, ends_on, ends_same, ends_within}
-use Rattle.literal_search.proofs.lemmas.FirstSuffix.{first_ends}
-use Rattle.literal_search.proofs.lemmas.Reversed.{back_at, back_count, back_long, end_is_prefix, prefix_is_end}
+use Rattle.literal_search.specs.Words.{begins_one}
+use Rattle.literal_search.proofs.lemmas.FirstSuffix.{end_of_itself, ends_on, ends_within}
+use Rattle.literal_search.proofs.lemmas.Reversed.{back_at, back_count, end_is_prefix, prefix_is_end}
 
 -- the first of some texts that passes a test, up to one
 pub record FindsFirst (test : List ℕ → Bool) (texts : List (List ℕ)) (upto : ℕ) : Type 0 where
@@ -101,11 +100,6 @@ module _ (words : List (List ℕ)) (i : ℕ) (below : i < length words) where
         inside,
         found_is,
       )
-
--- there is one first
-pub first_is_one : (patterns : List (List ℕ)) (text : List ℕ) (n m : ℕ) → IsFirstOf patterns text n
-    → IsFirstOf patterns text m → n ≡ m
-first_is_one patterns text n m one other = omega (arith, one.least m other.is, other.least n one.is)
 
 -- what replaces some texts, none of which is empty, is not empty
 pub some_unshadowed : (kind : MatchKind) (words : List (List ℕ)) → NoneIsEmpty words
@@ -253,48 +247,38 @@ few_unshadowed words width many =
       many.2,
     )
 
--- by numbers of the first of the suffixes
-module _ (words : List (List ℕ)) (firsts : List ℕ) (are : AreFirst (reversed words) firsts (length (reversed words)))
-  where
-    first_at : (i : ℕ) → i < length (reversed words)
-        → pattern_at (reversed (map (first_prefix words) words)) i ≡ pattern_at (reversed words) (get_or firsts i 0)
-    first_at i below =
-        let first = back_first words i below in
-        first.2 ∙ ap (pattern_at (reversed words))
-        (first_is_one (reversed words) (pattern_at (reversed words) i) first.0 (get_or firsts i 0) first.1
-        (are.each i below))
+-- the texts with the numbers of the first prefixes are those that replace the texts
+pub chosen_unshadowed : (words : List (List ℕ)) (firsts : List ℕ) → AreFirstPrefixes words firsts
+    → chosen_by words firsts ≡ unshadowed LeftmostFirst words
+chosen_unshadowed words firsts are =
+    let count = length-map firsts (pattern_at words) in
+    ext_get_or [] (chosen_by words firsts) (map (first_prefix words) words)
+    (count ∙ (are.long ∙ sym (length-map words (first_prefix words))))
+    (λ i below.
+    let inside : i < length words = omega (arith, below, count, are.long) in
+    let text = pattern_at words i in
+    let found = first_found words i inside in
+    let first = are.each i inside in
+    let same : get_or firsts i 0 ≡ found.first = omega (
+      arith,
+      no_later (starts_with nat_eq text) words i (get_or firsts i 0) found first.begins,
+      first.least found.first (omega (arith, found.early, inside)) found.passes,
+    ) in
+    get_or-map (pattern_at words) firsts i 0 [] (omega (arith, below, count))
+    ∙ (ap (pattern_at words) same ∙ sym (found_is words i inside)))
 
-    -- if none is shorter, these are the texts
-    pub none_shadowed : ((i : ℕ) → i < length words
-        → length (pattern_at words i) ≤ length (pattern_at words (get_or firsts i 0)))
-        → reversed words ≡ reversed (unshadowed LeftmostFirst words)
-    none_shadowed as_long =
-        ext_get_or [] (reversed words) (reversed (map (first_prefix words) words)) (sym (back_known words))
-        (λ i below.
-        let texts = reversed words in
-        let first = are.each i below in
-        let end = first.is.ends in
-        let itself = (end_of_itself texts i below).ends in
-        let longer = as_long i (omega (arith, below, back_count words)) in
-        let sizes = ends_length (pattern_at texts i) (pattern_at texts (get_or firsts i 0)) end in
-        let same = ends_same (pattern_at texts i) (pattern_at texts i) (pattern_at texts (get_or firsts i 0)) itself end
-        (omega (arith, sizes, longer, back_long words i, back_long words (get_or firsts i 0))) in
-        same ∙ sym (first_at i below))
-
-    -- and else those of the numbers
-    pub shadowed_by : reversed (map (pattern_at words) firsts) ≡ reversed (unshadowed LeftmostFirst words)
-    shadowed_by =
-        let chosen = map (pattern_at words) firsts in
-        let count : length (reversed chosen) ≡ length (reversed words) =
-        back_count chosen ∙ (length-map firsts (pattern_at words) ∙ are.long) in
-        ext_get_or [] (reversed chosen) (reversed (map (first_prefix words) words)) (count ∙ sym (back_known words))
-        (λ i below.
-        let inside : i < length firsts =
-        omega (arith, below, back_count chosen, length-map firsts (pattern_at words)) in
-        back_at chosen i
-        ∙ (ap (λ (l : List ℕ). reverse l) (get_or-map (pattern_at words) firsts i 0 [] inside)
-        ∙ (sym (back_at words (get_or firsts i 0))
-        ∙ sym (first_at i (omega (arith, below, count))))))
+-- the texts with all numbers are the texts
+pub all_chosen : (words : List (List ℕ)) → chosen_by words (range_with_len 0 (length words)) ≡ words
+all_chosen words =
+    let count = length-map (range_with_len 0 (length words)) (pattern_at words) in
+    let many = length-range_with_len 0 (length words) in
+    ext_get_or [] (chosen_by words (range_with_len 0 (length words))) words (count ∙ many)
+    (λ i below.
+    let inside : i < length words = omega (arith, below, count, many) in
+    let at : get_or (range_with_len 0 (length words)) i 0 ≡ i =
+    omega (arith, get_or-range_with_len 0 (length words) i 0 inside) in
+    get_or-map (pattern_at words) (range_with_len 0 (length words)) i 0 [] (omega (arith, below, count))
+    ∙ ap (pattern_at words) at)
 
 -- the texts of patterns of some numbers
 text_chosen : (classes : List ℕ) (patterns : List (List ℕ)) (number : ℕ)
@@ -347,48 +331,3 @@ ending_is_best LeftmostLongest words text i is = (
     ]
   ],
 )
-
--- of the patterns that are a suffix of a text the smallest of a list that has all up to the next
-pub record IsSmallestUpTo (patterns : List (List ℕ)) (text : List ℕ) (smallest next : ℕ) : Type 0 where
-  pub list : List ℕ
-  pub has : HasUpTo patterns text list next
-  pub least : All (λ i. smallest ≤ i) list
-  pub is : IsSuffix patterns text smallest
-
-module _ (patterns : List (List ℕ)) (some : NoneIsEmpty patterns) (few : length patterns ≤ 2 ^ 31 - 1) where
-  -- before a chain goes on, from the first of the patterns that are a suffix of it
-  pub smallest_first : (first : ℕ) → ending patterns (pattern_at patterns first) ≡ Some first
-      → IsSmallestUpTo patterns (pattern_at patterns first) first first
-  smallest_first first ends = record {
-    list = [];
-    has = up_to_first patterns some few first ends;
-    least = All-nil (λ i. first ≤ i);
-    is = (first_ends patterns some (pattern_at patterns first) first ends).is;
-  }
-
-  -- behind the next of them
-  pub smallest_on : (text : List ℕ) (smallest next link : ℕ) → IsSmallestUpTo patterns text smallest next
-      → next ≢ nothing → IsOutputLink patterns next link → IsSmallestUpTo patterns text (min smallest next) link
-  smallest_on text smallest next link so_far more is = record {
-    list = so_far.list ++ next ∷ [];
-    has = up_to_more patterns some few text so_far.list next link so_far.has more is;
-    least = All-push (λ i. min smallest next ≤ i) so_far.list next
-        (All-weaker (λ i. smallest ≤ i) (λ i. min smallest next ≤ i) (λ i less. omega arith) so_far.list so_far.least)
-        (omega arith);
-    is = elim (cases_lt next smallest) [
-      | inl less ↦ subst (IsSuffix patterns text) (let is : next ≡ min smallest next = omega arith in is)
-          (elim so_far.has.next_is [ inl none ↦ absurd (more none) | inr here ↦ here ])
-      | inr not ↦ subst (IsSuffix patterns text) (let is : smallest ≡ min smallest next = omega arith in is) so_far.is
-    ];
-  }
-
--- at its end it is the first
-pub smallest_is_first : (patterns : List (List ℕ)) (text : List ℕ) (smallest next : ℕ)
-    → IsSmallestUpTo patterns text smallest next → next ≡ nothing → IsFirstOf patterns text smallest
-smallest_is_first patterns text smallest next so_far none = record {
-  is = so_far.is;
-  least = λ j end. elim (so_far.has.others j end) [
-    | inl in_list ↦ All-contains (λ i. smallest ≤ i) so_far.list j so_far.least in_list
-    | inr rest ↦ absurd (rest.0 none)
-  ];
-}

@@ -1,8 +1,12 @@
 -- How many states there are.
 use Rattle.std.proofs.lemmas.Grind.{common_steps}
 use Rattle.std.proofs.Common.{◌≡◌, ◌≢◌, ℕ, ◌+◌, ◌*◌, ◌-◌, ◌<◌, ◌≤◌, ◌^◌, ◌⊎◌, true, List, [], ◌∷◌, ◌++◌, suc, zero}
+use Rattle.std.proofs.Common.{Bool, cond, false, length-append, ltb, sum_by}
 use Rattle.std.proofs.Common.{length, get_or, map, take, drop, eqb, nat_eq, inl, inr, refl, sym, ap, ◌∙◌, arith, subst}
-use Rattle.std.proofs.lemmas.Bool.{cases_lt, eqb-true, ne_eqb}
+use Rattle.std.proofs.Math.Nat.{mul-le-mul_right}
+use Rattle.std.proofs.Math.Seq.{take-append_seam}
+use Rattle.std.proofs.lemmas.List.Sums.{sum_by-cons}
+use Rattle.std.proofs.lemmas.Bool.{cases_lt, eqb-true, lt-ltb, ltb-true, ne_eqb}
 use Rattle.std.proofs.lemmas.Bool.Decides.{Decides-eqb}
 use Rattle.std.proofs.lemmas.List.{get_or-map, get_or_append_left, get_or_default, get_or_past, get_or_push, length-map}
 use Rattle.std.proofs.lemmas.List.{length-take-le, length_push, same_from_push, take-append-drop, take_all, take_more}
@@ -21,6 +25,45 @@ use Rattle.literal_search.specs.States.{AreStates, HasTooManyStates}
 use Rattle.literal_search.specs.Table.{Recognises, stride_of}
 use Rattle.literal_search.specs.Words.{begins_one, word_of}
 use Rattle.literal_search.proofs.lemmas.Live.{begins_prefix, one_begins}
+
+-- If each text that is empty or a prefix of a pattern is the word of a number below a bound, there are no more of them.
+module _ (patterns : List (List ℕ)) (bound : ℕ) (word : ℕ → List ℕ)
+    (number_of : (text : List ℕ) → (text ≡ []) ⊎ (begins_one patterns text ≡ true)
+    → (n : ℕ) × (n < bound) × (word n ≡ text)) where
+  numbers_of : (texts : List (List ℕ)) → All (λ text. (text ≡ []) ⊎ (begins_one patterns text ≡ true)) texts
+      → (numbers : List ℕ) × (length numbers ≡ length texts)
+      × ((k d : ℕ) (e : List ℕ) → k < length texts
+      → (get_or numbers k d < bound) × (word (get_or numbers k d) ≡ get_or texts k e))
+  numbers_of [] begun = ([], refl, λ k d e inside. absurd (omega arith))
+  numbers_of (text ∷ texts) begun =
+      let first = number_of text
+      (All-head (λ (t : List ℕ). (t ≡ []) ⊎ (begins_one patterns t ≡ true)) text texts begun) in
+      let rest = numbers_of texts
+      (All-tail (λ (t : List ℕ). (t ≡ []) ⊎ (begins_one patterns t ≡ true)) text texts begun) in
+      (first.0 ∷ rest.0, ap suc rest.1, at first rest)
+    where
+      at : (first : (n : ℕ) × (n < bound) × (word n ≡ text))
+          → (rest : (numbers : List ℕ) × (length numbers ≡ length texts)
+          × ((k d : ℕ) (e : List ℕ) → k < length texts
+          → (get_or numbers k d < bound) × (word (get_or numbers k d) ≡ get_or texts k e)))
+          → (k d : ℕ) (e : List ℕ) → k < suc (length texts)
+          → (get_or (first.0 ∷ rest.0) k d < bound)
+          × (word (get_or (first.0 ∷ rest.0) k d) ≡ get_or (text ∷ texts) k e)
+      at first rest zero d e inside = (first.1, first.2)
+      at first rest (suc k) d e inside = rest.2 k d e (omega arith)
+
+  pub few_numbered : (texts : List (List ℕ)) → AreStates patterns texts → length texts ≤ bound
+  few_numbered texts are =
+      let all = numbers_of texts are.begun in
+      let distinct = IsDistinct-from_apart eqb all.0 (λ i j d before inside. ne_eqb _ _ (λ same.
+      are.apart i j [] before (omega (arith, all.1, inside))
+      (sym (all.2 i d [] (omega (arith, all.1, before, inside))).1
+      ∙ (ap word same ∙ (all.2 j d [] (omega (arith, all.1, inside))).1)))) in
+      let fits = length-le_from_distinct_below all.0 (bound) distinct (λ q is.
+      let one = Any-from_list_any (eqb q) all.0 is in
+      let read = (all.2 one.0 one.1 [] (omega (arith, all.1, one.2))).0 in
+      omega (arith, read, one.3, eqb-true q one.1 one.4)) in
+      omega (arith, fits, all.1)
 
 module _ (patterns : List (List ℕ)) (width : ℕ)
     (below : (i k : ℕ) → get_or (pattern_at patterns i) k 0 < width) (rows : List ℕ)
@@ -51,42 +94,79 @@ module _ (patterns : List (List ℕ)) (width : ℕ)
       let is = state_of_prefix text begun (length text) (omega arith) in
       (is.0, is.1, is.2 ∙ take_all (length text) text (omega arith))
 
-  -- the states of texts
-  states_of : (texts : List (List ℕ)) → All (λ text. (text ≡ []) ⊎ (begins_one patterns text ≡ true)) texts
-      → (states : List ℕ) × (length states ≡ length texts)
-      × ((k d : ℕ) (e : List ℕ) → k < length texts
-      → (get_or states k d < length r.words) × (word_of r.words (get_or states k d) ≡ get_or texts k e))
-  states_of [] begun = ([], refl, λ k d e inside. absurd (omega arith))
-  states_of (text ∷ texts) begun =
-      let first = state_of text
-      (All-head (λ (t : List ℕ). (t ≡ []) ⊎ (begins_one patterns t ≡ true)) text texts begun) in
-      let rest = states_of texts
-      (All-tail (λ (t : List ℕ). (t ≡ []) ⊎ (begins_one patterns t ≡ true)) text texts begun) in
-      (first.0 ∷ rest.0, ap suc rest.1, at first rest)
-    where
-      at : (first : (n : ℕ) × (n < length r.words) × (word_of r.words n ≡ text))
-          → (rest : (states : List ℕ) × (length states ≡ length texts)
-          × ((k d : ℕ) (e : List ℕ) → k < length texts
-          → (get_or states k d < length r.words) × (word_of r.words (get_or states k d) ≡ get_or texts k e)))
-          → (k d : ℕ) (e : List ℕ) → k < suc (length texts)
-          → (get_or (first.0 ∷ rest.0) k d < length r.words)
-          × (word_of r.words (get_or (first.0 ∷ rest.0) k d) ≡ get_or (text ∷ texts) k e)
-      at first rest zero d e inside = (first.1, first.2)
-      at first rest (suc k) d e inside = rest.2 k d e (omega arith)
-
-  -- so there are no more texts than states
+  -- so there are no more such texts than states
   pub few_states : (texts : List (List ℕ)) → AreStates patterns texts → length texts ≤ length r.words
-  few_states texts are =
-      let all = states_of texts are.begun in
-      let distinct = IsDistinct-from_apart eqb all.0 (λ i j d before inside. ne_eqb _ _ (λ same.
-      are.apart i j [] before (omega (arith, all.1, inside))
-      (sym (all.2 i d [] (omega (arith, all.1, before, inside))).1
-      ∙ (ap (word_of r.words) same ∙ (all.2 j d [] (omega (arith, all.1, inside))).1)))) in
-      let fits = length-le_from_distinct_below all.0 (length r.words) distinct (λ q is.
-      let one = Any-from_list_any (eqb q) all.0 is in
-      let read = (all.2 one.0 one.1 [] (omega (arith, all.1, one.2))).0 in
-      omega (arith, read, one.3, eqb-true q one.1 one.4)) in
-      omega (arith, fits, all.1)
+  few_states texts are = few_numbered patterns (length r.words) (word_of r.words) state_of texts are
+
+-- the prefixes of some texts by numbers: the empty one, those of the first, and then those of the next
+prefix_by : List (List ℕ) → ℕ → List ℕ
+prefix_by [] n = []
+prefix_by (text ∷ more) n = cond (ltb (length text) n) (prefix_by more (n - length text)) (take n text)
+
+prefix_here : (text : List ℕ) (more : List (List ℕ)) (n : ℕ) → n ≤ length text
+    → prefix_by (text ∷ more) n ≡ take n text
+unfolding prefix_by
+prefix_here text more n within =
+    ap (λ b. cond b (prefix_by more (n - length text)) (take n text)) (by (ltb (length text) n) refl)
+  where
+    by : (b : Bool) → ltb (length text) n ≡ b → ltb (length text) n ≡ false
+    by true less = absurd (omega (arith, within, ltb-true (length text) n less))
+    by false is = is
+
+prefix_further : (text : List ℕ) (more : List (List ℕ)) (n : ℕ) → 0 < n
+    → prefix_by (text ∷ more) (length text + n) ≡ prefix_by more n
+unfolding prefix_by
+prefix_further text more n some =
+    let rest : length text + n - length text ≡ n = omega arith in
+    ap (λ b. cond b (prefix_by more (length text + n - length text)) (take (length text + n) text))
+    (lt-ltb (length text) (length text + n) (omega (arith, some)))
+    ∙ ap (prefix_by more) rest
+
+prefix_of_none : (texts : List (List ℕ)) → prefix_by texts 0 ≡ []
+unfolding prefix_by
+prefix_of_none [] = refl
+prefix_of_none (text ∷ more) = prefix_here text more 0 (omega arith)
+
+number_of_prefix : (texts : List (List ℕ)) (i : ℕ) (symbol : ℕ) (text : List ℕ) → i < length texts
+    → starts_with nat_eq (pattern_at texts i) (symbol ∷ text) ≡ true
+    → (n : ℕ) × (0 < n) × (n < sum_by length texts + 1) × (prefix_by texts n ≡ symbol ∷ text)
+number_of_prefix [] i symbol text below begins = absurd (omega (arith, below))
+number_of_prefix (first ∷ more) zero symbol text below begins =
+    let word = symbol ∷ text in
+    let split = (starts_is Decides-eqb first word _ refl).0 begins in
+    let total = sum_by-cons length first more in
+    let long = ap (λ (l : List ℕ). length l) split ∙ length-append word (drop (length word) first) in (
+      length word,
+      omega arith,
+      omega (arith, long, total),
+      prefix_here first more (length word) (omega (arith, long))
+          ∙ (ap (take (length word)) split ∙ take-append_seam word (drop (length word) first)),
+    )
+number_of_prefix (first ∷ more) (suc i) symbol text below begins =
+    let (n, some, few, is) = number_of_prefix more i symbol text (omega (arith, below)) begins in
+    let total = sum_by-cons length first more in
+    (length first + n, omega (arith, some), omega (arith, few, total), prefix_further first more n some ∙ is)
+
+number_of_any : (texts : List (List ℕ)) (text : List ℕ) → (text ≡ []) ⊎ (begins_one texts text ≡ true)
+    → (n : ℕ) × (n < sum_by length texts + 1) × (prefix_by texts n ≡ text)
+number_of_any texts text (inl none) = (0, omega arith, prefix_of_none texts ∙ sym none)
+number_of_any texts [] (inr begun) = (0, omega arith, prefix_of_none texts)
+number_of_any texts (symbol ∷ text) (inr begun) =
+    let one = one_begins texts (symbol ∷ text) begun in
+    let (n, some, few, is) = number_of_prefix texts one.0 symbol text one.1 one.2 in
+    (n, few, is)
+
+-- the states are at most one more than all symbols
+pub few_by_length : (patterns texts : List (List ℕ)) → AreStates patterns texts
+    → length texts ≤ sum_by length patterns + 1
+few_by_length patterns texts are =
+    few_numbered patterns (sum_by length patterns + 1) (prefix_by patterns) (number_of_any patterns) texts are
+
+pub few_if_short : (patterns : List (List ℕ)) (width : ℕ)
+    → (sum_by length patterns + 1) * stride_of width ≤ 2 ^ 31 - 1 → ¬ HasTooManyStates patterns width
+few_if_short patterns width short (texts, are, many) =
+    let product = mul-le-mul_right (stride_of width) (few_by_length patterns texts are) in
+    omega (arith, short, many, product)
 
 -- words that are made one by one
 module _ (patterns words : List (List ℕ)) (width upto : ℕ)

@@ -1,5 +1,5 @@
 -- The rows for some texts, and the first pattern that is a suffix of a text.
-use Rattle.std.specs.Prelude.{◌≡◌, ℕ, ◌<◌, ◌≤◌, List, length, map, slice_index}
+use Rattle.std.specs.Prelude.{ℕ, ◌≤◌, List, length, map}
 use Rattle.std.specs.Global.{Vec}
 use Rattle.literal_base.specs.Occurs.{pattern_at}
 use Rattle.literal_search.specs.Inside.Classes.{symbols_in}
@@ -21,7 +21,6 @@ pub record IsFirstOf (patterns : List (List ℕ)) (text : List ℕ) (first : ℕ
   pub is : IsSuffix patterns text first
   pub least : (i : ℕ) → IsSuffix patterns text i → first ≤ i
 
--- each pattern up to a bound has the first one that is a suffix of it
-pub record AreFirst (patterns : List (List ℕ)) (firsts : List ℕ) (count : ℕ) : Type 0 where
-  pub long : length firsts ≡ count
-  pub each : (i : ℕ) → i < count → IsFirstOf patterns (pattern_at patterns i) (slice_index firsts i)
+-- the texts with these numbers
+abbrev pub chosen_by : List (List ℕ) → List ℕ → List (List ℕ)
+chosen_by texts numbers = map (pattern_at texts) numbers

@@ -1,0 +1,58 @@
+use Rattle.std.proofs.Common.{◌≡◌, ◌∙◌, IfErr, IfOk, List, ap, arith, get_or, length, map, subst, sym, ℕ}
+use Rattle.std.proofs.lemmas.List.{length-map}
+use Rattle.std.proofs.lemmas.List.FromFn.{get_or-range_with_len, length-range_with_len}
+use Rattle.std.specs.Global.{Vec}
+use Rattle.std.specs.List.{range_with_len}
+use Rattle.literal_search.specs.Inside.Classes.{symbols_in}
+use Rattle.literal_search.specs.Inside.Shadowed.{AreRowsFor, chosen_by, texts_by}
+use Rattle.literal_search.specs.SearchValue.{reversed}
+use Rattle.literal_search.specs.States.{HasTooManyStates}
+use Rattle.literal_search.specs.declared.grow.GrowError.TheVariants.{TooManyStates}
+use Rattle.literal_search.proofs.lemmas.Shadowed.{all_chosen}
+use Rattle.literal_search.proofs.shadowed.all_rows.Goals as goal
+
+-- the texts with all numbers
+texts_are : (classes : List ℕ) (patterns : List (Vec ℕ)) (lent numbers : List ℕ) → lent ≡ numbers
+    → numbers ≡ range_with_len 0 (length patterns)
+    → chosen_by (texts_by classes patterns) lent ≡ texts_by classes patterns
+texts_are classes patterns lent numbers same are =
+    let items = λ (pattern : Vec ℕ). pattern.items in
+    let count = length-map (map items patterns) (symbols_in classes) ∙ length-map patterns items in
+    ap (chosen_by (texts_by classes patterns)) (same ∙ (are ∙ ap (range_with_len 0) (sym count)))
+    ∙ all_chosen (texts_by classes patterns)
+
+pub chosen_rows-requires-clause-few : goal.chosen_rows-requires-clause-few
+chosen_rows-requires-clause-few c =
+    let long = ap (λ (l : List ℕ). length l) (c.deref.ensures.value ∙ c.in_ok-all.ensures) in
+    omega (arith, long, length-range_with_len 0 (length c.args.patterns.now), c.requires.few)
+
+pub chosen_rows-requires-clause-numbers : goal.chosen_rows-requires-clause-numbers
+chosen_rows-requires-clause-numbers c = λ i below.
+    let are = c.deref.ensures.value ∙ c.in_ok-all.ensures in
+    let long = ap (λ (l : List ℕ). length l) are in
+    let many = length-range_with_len 0 (length c.args.patterns.now) in
+    let is = get_or-range_with_len 0 (length c.args.patterns.now) i 0 (omega (arith, below, long, many)) in
+    omega (arith, below, long, many, is, ap (λ l. get_or l i 0) are)
+
+pub returns-clause-rows : goal.returns-clause-rows
+returns-clause-rows c =
+    let classes = c.args.classes.now in
+    subst (λ (t : List (List ℕ)). IfOk c.chosen_rows.result
+    (λ (rows : Vec ℕ). AreRowsFor (reversed t) classes.width rows.items))
+    (texts_are classes.table c.args.patterns.now c.deref.result.now c.in_ok-all.all.items c.deref.ensures.value
+    c.in_ok-all.ensures) c.chosen_rows.ensures.rows
+
+pub returns-clause-few : goal.returns-clause-few
+returns-clause-few c =
+    let classes = c.args.classes.now in
+    subst (λ (t : List (List ℕ)). IfOk c.chosen_rows.result (λ _. HasTooManyStates (reversed t) classes.width → ⊥))
+    (texts_are classes.table c.args.patterns.now c.deref.result.now c.in_ok-all.all.items c.deref.ensures.value
+    c.in_ok-all.ensures) c.chosen_rows.ensures.few
+
+pub returns-clause-too_many : goal.returns-clause-too_many
+returns-clause-too_many c =
+    let classes = c.args.classes.now in
+    subst (λ (t : List (List ℕ)). IfErr c.chosen_rows.result (λ error. error ≡ TooManyStates
+    → HasTooManyStates (reversed t) classes.width))
+    (texts_are classes.table c.args.patterns.now c.deref.result.now c.in_ok-all.all.items c.deref.ensures.value
+    c.in_ok-all.ensures) c.chosen_rows.ensures.too_many
