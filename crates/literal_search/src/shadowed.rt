@@ -1,6 +1,6 @@
 //! Patterns that never match, because an earlier one is their prefix and is preferred. A search uses that one instead.
-ghost use Rattle.std.specs.Prelude.{◌≡◌, ◌+◌, ◌*◌, ◌-◌, ◌<◌, ◌≤◌, ◌^◌, ℕ, IfErr, IfOk, length, map, reverse, slice_index};
-ghost use Rattle.std.specs.Prelude.{sum_by, true};
+ghost use Rattle.std.specs.Prelude.{◌≡◌, ◌+◌, ◌*◌, ◌-◌, ◌<◌, ◌≤◌, ◌^◌, ℕ, IfErr, IfOk, length, map, reverse};
+ghost use Rattle.std.specs.Prelude.{slice_index, sum_by, true};
 ghost use Rattle.literal_base.specs.Occurs.{pattern_at};
 ghost use Rattle.literal_search.specs.SearchValue.{CanBeKept, reversed, unshadowed};
 ghost use Rattle.literal_search.specs.States.{HasTooManyStates};

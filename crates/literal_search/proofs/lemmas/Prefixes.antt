@@ -1,6 +1,8 @@
 -- Prefixes among sorted texts. For `prefixes`.
-use Rattle.std.proofs.Common.{◌≡◌, ◌≢◌, ◌∙◌, ◌+◌, ◌-◌, ◌<◌, ◌≤◌, ◌++◌, ◌∷◌, [], ℕ, Bool, List, None, Option, Some, ap, append-nil}
-use Rattle.std.proofs.Common.{MatchOption, append_assoc, arith, drop, false, get_or, inl, inr, length, min, refl, subst, suc, sym, true}
+use Rattle.std.proofs.Common.{◌≡◌, ◌≢◌, ◌∙◌, ◌+◌, ◌-◌, ◌<◌, ◌≤◌, ◌++◌, ◌∷◌, [], ℕ, Bool, List}
+use Rattle.std.proofs.Common.{None, Option, Some, ap, append-nil}
+use Rattle.std.proofs.Common.{MatchOption, append_assoc, arith, drop, false, get_or, inl, inr, length, min, refl}
+use Rattle.std.proofs.Common.{subst, suc, sym, true}
 use Rattle.std.proofs.lemmas.Bool.{cases_lt, false≢true}
 use Rattle.std.proofs.lemmas.Bool.Decides.{Decides-eqb}
 use Rattle.std.proofs.lemmas.Slice.Eq.{starts_is}
@@ -15,14 +17,16 @@ use Rattle.std.specs.List.Sorted.{IsPermutation, IsSortedBy}
 use Rattle.std.specs.Ordering.{is_lt, on, ordering_reverse, then_cmp}
 use Rattle.std.proofs.Common.{set, zero}
 use Rattle.std.proofs.lemmas.Cmp.{nat_cmp_total, nat_list_cmp_total, on_total, then_total}
-use Rattle.std.proofs.lemmas.List.{get_or-map, get_or-set_other, get_or-set_same, get_or_append_left, get_or_push, length-append, length-map}
+use Rattle.std.proofs.lemmas.List.{get_or-map, get_or-set_other, get_or-set_same, get_or_append_left, get_or_push}
+use Rattle.std.proofs.lemmas.List.{length-append, length-map}
 use Rattle.std.proofs.lemmas.List.Elements.{All-from_get_or, All-get_or, Contains-get_or}
 use Rattle.std.proofs.lemmas.List.FromFn.{get_or-range_with_len}
 use Rattle.std.proofs.lemmas.List.Sorted.{All-permutation, Contains-permutation}
 use Rattle.std.proofs.lemmas.List.MinMax.{ranks_by}
 use Rattle.literal_search.specs.declared.prefixes.Numbered.{Numbered}
 use Rattle.literal_base.specs.Occurs.{pattern_at}
-use Rattle.literal_search.specs.Inside.Prefixes.{AreInOrder, AreLastPrefixes, AreSorted, Begins, IsFirstPrefix, IsLastPrefix, numbers_in, words_in}
+use Rattle.literal_search.specs.Inside.Prefixes.{AreInOrder, AreLastPrefixes, AreSorted, Begins, IsFirstPrefix}
+use Rattle.literal_search.specs.Inside.Prefixes.{IsLastPrefix, numbers_in, words_in}
 
 -- a text that begins with a word is the word and the rest, and back
 begun : (text word : List ℕ) → Begins text word → text ≡ word ++ drop (length word) text
@@ -106,7 +110,8 @@ step_back words sorted index at inside upto fails answer last = by answer last
         → (k < at) × Begins (pattern_at words at) (pattern_at words k)
     earlier k below begins =
         let least = upto.1 k below begins in
-        let differs : k ≢ at = λ same. fails (subst (λ n. Begins (pattern_at words index) (pattern_at words n)) same begins) in
+        let differs : k ≢ at = λ same.
+        fails (subst (λ n. Begins (pattern_at words index) (pattern_at words n)) same begins) in
         let before : k < at = omega (arith, least, differs) in (
           before,
           begins_between (pattern_at words index) (pattern_at words at) (pattern_at words k) begins
@@ -199,7 +204,8 @@ number_at all k d below = get_or-map (λ (n : Numbered). n.number) all k d 0 bel
 
 -- the order of patterns with their numbers
 abbrev in_order : Numbered → Numbered → Ordering
-in_order = then_cmp (on (λ (n : Numbered). n.symbols.items) (slice_cmp nat_cmp)) (on (λ (n : Numbered). n.number) nat_cmp)
+in_order =
+    then_cmp (on (λ (n : Numbered). n.symbols.items) (slice_cmp nat_cmp)) (on (λ (n : Numbered). n.number) nat_cmp)
 
 in_order_total : IsTotalOrder in_order
 in_order_total =
@@ -221,12 +227,14 @@ module _ (all : List Numbered) (rises : IsSortedBy (λ x y. is_lt (in_order x y)
   not_less_after : (j more k : ℕ) (d : Numbered) → k ≡ j + more → k < length all
       → is_lt (in_order (get_or all k d) (get_or all j d)) ≡ false
   not_less_after j zero k d is below =
-      subst (λ n. is_lt (in_order (get_or all n d) (get_or all j d)) ≡ false) (let same : j ≡ k = omega (arith, is) in same)
+      subst (λ n. is_lt (in_order (get_or all n d) (get_or all j d)) ≡ false)
+      (let same : j ≡ k = omega (arith, is) in same)
       (itself (get_or all j d))
   not_less_after j (suc more) k d is below =
       order.chain (get_or all k d) (get_or all (j + more) d) (get_or all j d)
       (subst (λ n. is_lt (in_order (get_or all n d) (get_or all (j + more) d)) ≡ false)
-      (let same : j + more + 1 ≡ k = omega (arith, is) in same) (rises (j + more) d (omega arith) (omega (arith, is, below))))
+      (let same : j + more + 1 ≡ k = omega (arith, is) in same)
+      (rises (j + more) d (omega arith) (omega (arith, is, below))))
       (not_less_after j more (j + more) d refl (omega (arith, is, below)))
 
   not_less : (j k : ℕ) (d : Numbered) → j ≤ k → k < length all
@@ -243,7 +251,8 @@ not_greater a b more not greater =
 
 equal_words : (a : List ℕ) → slice_cmp nat_cmp a a ≡ Equal
 equal_words [] = refl
-equal_words (x ∷ a) = ap (λ o. ordering_then o (slice_cmp nat_cmp a a)) (sym (nat_cmp_is x x Equal refl)) ∙ equal_words a
+equal_words (x ∷ a) =
+    ap (λ o. ordering_then o (slice_cmp nat_cmp a a)) (sym (nat_cmp_is x x Equal refl)) ∙ equal_words a
 
 not_below : (x y : ℕ) → is_lt (nat_cmp y x) ≡ false → x ≤ y
 not_below x y not = elim (cases_lt y x) [
@@ -345,7 +354,8 @@ pub firsts_more : (texts words : List (List ℕ)) (numbers firsts : List ℕ) �
     → length firsts ≡ length texts → (index first : ℕ) → index < length words
     → ((k : ℕ) → k < index → IsFirstPrefix texts (pattern_at words k) (get_or firsts (get_or numbers k 0) 0))
     → IsFirstPrefix texts (pattern_at words index) first → (k : ℕ) → k < index + 1
-    → IsFirstPrefix texts (pattern_at words k) (get_or (set firsts (get_or numbers index 0) first) (get_or numbers k 0) 0)
+    → IsFirstPrefix texts (pattern_at words k)
+    (get_or (set firsts (get_or numbers index 0) first) (get_or numbers k 0) 0)
 firsts_more texts words numbers firsts sorted long index first inside known is k below =
     elim (cases_lt n m) [
       | inl less ↦ other (λ same. omega (arith, less, same))

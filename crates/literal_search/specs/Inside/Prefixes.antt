@@ -23,9 +23,11 @@ pub record AreFirstPrefixes (texts : List (List ℕ)) (firsts : List ℕ) : Type
   pub long : length firsts ≡ length texts
   pub each : (i : ℕ) → i < length texts → IsFirstPrefix texts (pattern_at texts i) (slice_index firsts i)
 
+-- the patterns as texts of classes
 abbrev pub words_in : List Numbered → List (List ℕ)
 words_in all = map (λ (n : Numbered). n.symbols.items) all
 
+-- their numbers
 abbrev pub numbers_in : List Numbered → List ℕ
 numbers_in all = map (λ (n : Numbered). n.number) all
 

@@ -22,8 +22,10 @@ loop-index-preserved c =
     let words = words_in sorted in
     let texts = texts_by c.args.classes.now c.args.patterns.now in
     let are = c.in_ok-sorted.ensures in
-    let last = subst (λ (s : List Numbered). IsLastPrefix (words_in s) index c.last_prefix-last.result) c.deref.ensures.value c.last_prefix-last.ensures in
-    let inside : index < length words = omega (arith, c.loop-index-test.true, c.len-index-end.ensures, length-map sorted (λ (n : Numbered). n.symbols.items)) in
+    let last = subst (λ (s : List Numbered). IsLastPrefix (words_in s) index c.last_prefix-last.result)
+    c.deref.ensures.value c.last_prefix-last.ensures in
+    let many = length-map sorted (λ (n : Numbered). n.symbols.items) in
+    let inside : index < length words = omega (arith, c.loop-index-test.true, c.len-index-end.ensures, many) in
     let number : get_or (numbers_in sorted) index 0 ≡ c.index.result.now.number =
     number_at sorted index c.index.result.now (omega (arith, c.loop-index-test.true, c.len-index-end.ensures))
     ∙ ap (λ (n : Numbered). n.number) (sym c.index.ensures) in
