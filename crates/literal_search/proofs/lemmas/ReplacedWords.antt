@@ -70,7 +70,7 @@ module _ {words : WholeWordsValue} {haystack : List ℕ} {replacements : List (B
   words_written step count answer is = record {
     one_for_each = grind (arith, length-map);
     matches = done;
-    are_words = subst (AreWholeWords words haystack (whole_of haystack)) (append-nil done)
+    are_matches = subst (AreWholeWords words haystack (whole_of haystack)) (append-nil done)
         (so_far.so_far.goes_on [] (next_word step));
     is_replaced = is ∙ (so_far.goes_on [] ∙ ap (replaced haystack given 0) (append-nil done));
   }
@@ -84,7 +84,7 @@ module _ {words : WholeWordsValue} {haystack : List ℕ} {replacements : List (B
     record {
       one_for_each = grind (arith, length-map);
       matches = done ++ more;
-      are_words = so_far.so_far.goes_on more are;
+      are_matches = so_far.so_far.goes_on more are;
       is_replaced = refl;
     },
     subst (λ (bytes : List ℕ). 0 < length bytes) (so_far.goes_on more) some,
