@@ -9,7 +9,8 @@ use Rattle.literal_base.specs.Greedy.{IsGreedy}
 use Rattle.literal_base.specs.MatchValue.{MatchValue}
 use Rattle.literal_base.specs.Occurs.{pattern_at, whole_of}
 use Rattle.literal_search.specs.SearchValue.{SearchValue, longest_of}
-use Rattle.literal_search.specs.WholeWords.{AreWholeWords, AreWordsFrom, WholeWordsValue}
+use Rattle.literal_search.specs.WholeWords.{AreWholeWords, AreWordsFrom, AreWordsFromBy, WholeWordsValue}
+use Rattle.literal_search.specs.WordText.{sides_of}
 use Rattle.literal_search.specs.declared.replace.ReplaceError.{ReplaceError}
 use Rattle.literal_search.specs.declared.replace.ReplaceError.TheVariants.{NotOneForEach, OutOfMemory}
 use Rattle.literal_search.specs.declared.replace_stream.ReplaceStreamError.{ReplaceStreamError}
@@ -56,6 +57,16 @@ AreWordsReplaced words = IsReplacedBy (AreWordsFrom words) (length words.search.
 -- `RefusesToReplaceBy` for whole words
 abbrev pub RefusesToReplaceWords : WholeWordsValue → List ℕ → List (List ℕ) → ReplaceError → Type 0
 RefusesToReplaceWords words = RefusesToReplaceBy (AreWordsFrom words) (length words.search.query.patterns)
+
+-- each whole word of a text is replaced, by the text's sides
+abbrev pub AreTextWordsReplaced : WholeWordsValue → List ℕ → List (List ℕ) → List ℕ → Type 0
+AreTextWordsReplaced words text =
+    IsReplacedBy (AreWordsFromBy words (sides_of text)) (length words.search.query.patterns) text
+
+-- `RefusesToReplaceBy` for the whole words of a text
+abbrev pub RefusesToReplaceTextWords : WholeWordsValue → List ℕ → List (List ℕ) → ReplaceError → Type 0
+RefusesToReplaceTextWords words text =
+    RefusesToReplaceBy (AreWordsFromBy words (sides_of text)) (length words.search.query.patterns) text
 
 -- a text is written up to an offset, with its matches replaced. Whatever follows the text: this, followed by the rest
 -- with its matches replaced, is the whole with its matches replaced

@@ -94,9 +94,13 @@ AreWholeWordsBy words haystack sides span (found ∷ more) =
 abbrev pub AreWholeWords : WholeWordsValue → List ℕ → Span → List MatchValue → Type 0
 AreWholeWords words haystack = AreWholeWordsBy words haystack haystack
 
+-- `AreWordsFrom` by the sides of the haystack
+abbrev pub AreWordsFromBy : WholeWordsValue → List ℕ → List ℕ → ℕ → List MatchValue → Type 0
+AreWordsFromBy words sides haystack at = AreWholeWordsBy words haystack sides (rest_from haystack at)
+
 -- all whole words from an offset on
 abbrev pub AreWordsFrom : WholeWordsValue → List ℕ → ℕ → List MatchValue → Type 0
-AreWordsFrom words haystack at = AreWholeWords words haystack (rest_from haystack at)
+AreWordsFrom words haystack = AreWordsFromBy words haystack haystack
 
 -- a `WholeWordMatches` as contracts see it: the words, the haystack, the span, the offset from which it continues, the
 -- offset from which it looks for the next pattern, and the offset up to which it has looked

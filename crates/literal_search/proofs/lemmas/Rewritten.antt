@@ -1,11 +1,9 @@
 -- A text that is read piece by piece, and written with its matches rewritten.
-use Rattle.std.proofs.lemmas.Grind.{common_steps}
-use Rattle.std.proofs.Common.{◌≡◌, ℕ, ◌+◌, ◌-◌, ◌<◌, ◌≤◌, ◌++◌, [], ◌∷◌, ◌∙◌, Bool, List, None, Ok, Option, Result, ap}
-use Rattle.std.proofs.Common.{Some, false, true}
-use Rattle.std.proofs.Common.{append-nil, append_assoc, arith, drop, inl, inr, length, length-append, refl, subst, sym}
+use Rattle.std.proofs.Common.{◌≡◌, ℕ, ◌+◌, ◌-◌, ◌<◌, ◌≤◌, ◌++◌, [], ◌∷◌, ◌∙◌, Bool, List, Ok, Option, Result, ap}
+use Rattle.std.proofs.Common.{Some, true}
+use Rattle.std.proofs.Common.{append-nil, append_assoc, arith, drop, length, length-append, refl, subst, sym}
 use Rattle.std.proofs.Common.{slice_range, take}
 use Rattle.std.proofs.KnownBytes.{Appends-nil, Appends-trans, Consumes-nil, Consumes-trans}
-use Rattle.std.proofs.lemmas.Bool.{cases_lt}
 use Rattle.std.proofs.lemmas.Fn.{FoldsTo-push}
 use Rattle.std.proofs.lemmas.List.{drop-append-le, drop-drop, length-drop, length-take-le, take-append-drop}
 use Rattle.std.proofs.lemmas.List.{take-append-le}

@@ -1,7 +1,7 @@
 -- A text whose matches are rewritten by calls that write what a function of the match gives.
-use Rattle.std.proofs.Common.{◌≡◌, ℕ, ◌+◌, ◌-◌, ◌≤◌, ◌++◌, [], ◌∷◌, ◌∙◌, Err, IfErr, List, Ok, OnOk, Option, Result, ap}
+use Rattle.std.proofs.Common.{◌≡◌, ℕ, ◌-◌, ◌≤◌, ◌++◌, [], ◌∷◌, ◌∙◌, Err, IfErr, List, Ok, OnOk, Option, Result, ap}
 use Rattle.std.proofs.Common.{append-nil}
-use Rattle.std.proofs.Common.{append_assoc, arith, length, length-append, refl, drop, slice_range, subst, sym, take}
+use Rattle.std.proofs.Common.{append_assoc, arith, length, length-append, drop, slice_range, subst, sym, take}
 use Rattle.std.proofs.KnownBytes.{Appends-trans}
 use Rattle.std.specs.Bool.{⊤}
 use Rattle.std.specs.Borrow.{Bor, MutBor}

@@ -1,19 +1,19 @@
 -- What a stream is searched for: matches, and whole words.
 use Rattle.std.proofs.lemmas.Grind.{common_steps}
 use Rattle.std.proofs.Common.{◌≡◌, ℕ, ◌+◌, ◌-◌, ◌≤◌, ◌<◌, ◌++◌, ◌∷◌, ◌∙◌, [], Bool, List, None, Option, Some, ap, arith}
-use Rattle.std.proofs.Common.{IfSome, append-nil, drop, false, inl, inr, length, length-append, refl, subst, sym, take, true}
+use Rattle.std.proofs.Common.{append-nil, drop, inl, inr, length, length-append, refl, subst, sym}
 use Rattle.std.proofs.lemmas.Bool.{cases_lt}
 use Rattle.std.proofs.lemmas.List.{drop-append-le, length-drop, take-append-le}
 use Rattle.std.proofs.Math.Seq.{drop-append-add}
 use Rattle.std.specs.Borrow.{Bor}
 use Rattle.std.specs.List.{slice_range}
-use Rattle.literal_base.specs.Leftmost.{IsLeftmost, IsLeftmostMatch}
+use Rattle.literal_base.specs.Leftmost.{IsLeftmost}
 use Rattle.literal_base.specs.MatchValue.{MatchValue}
 use Rattle.literal_base.specs.Occurs.{AreEqualBytes, NoneIsEmpty, Occurs, between, pattern_at, rest_from}
 use Rattle.literal_base.specs.Query.{Query}
 use Rattle.literal_search.specs.SearchValue.{longest_of}
 use Rattle.literal_search.specs.Stream.{AnswersSoFar, IsKnownBy}
-use Rattle.literal_search.specs.WholeWords.{IsAlone, IsFirstAlone, OccursAlone, WholeWordsValue}
+use Rattle.literal_search.specs.WholeWords.{IsFirstAlone, OccursAlone, WholeWordsValue}
 use Rattle.literal_search.specs.WholeWords.{is_word_at, is_word_before}
 use Rattle.literal_search.specs.Inside.Stream.{Answers, AnswersAhead, AreMatches, Begins, IsFirst, TellsOf, margin_of, reach_of}
 use Rattle.literal_search.specs.Inside.Stream.{search_of, shifted, told_later}

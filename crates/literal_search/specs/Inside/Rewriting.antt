@@ -1,5 +1,5 @@
 -- A text that is read in pieces, and written with its matches replaced.
-use Rattle.std.specs.Prelude.{◌≡◌, ⊤, ℕ, ◌-◌, ◌≤◌, ◌++◌, [], Bool, true, List, Option, Result, Some, drop}
+use Rattle.std.specs.Prelude.{◌≡◌, ⊤, ℕ, ◌-◌, ◌++◌, [], Bool, true, List, Option, Result, Some, drop}
 use Rattle.std.specs.Borrow.{Bor, MutBor}
 use Rattle.std.specs.Io.KnownBytes.{Consumes}
 use Rattle.std.specs.IoError.{error_kind}

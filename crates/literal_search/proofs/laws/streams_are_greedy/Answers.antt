@@ -1,5 +1,5 @@
-use Rattle.std.proofs.Common.{◌≡◌, ◌∙◌, ◌+◌, ◌-◌, ◌∷◌, ◌≤◌, [], Err, List, None, Ok, Option, Result, Some, ap, arith, map}
-use Rattle.std.proofs.Common.{refl, subst, sym, ℕ}
+use Rattle.std.proofs.Common.{◌≡◌, ◌∙◌, ◌∷◌, [], Err, List, None, Ok, Option, Result, Some, ap, arith, map}
+use Rattle.std.proofs.Common.{refl, subst, ℕ}
 use Rattle.std.specs.Iterator.{Yields}
 use Rattle.std.specs.declared.io.Error.{Error}
 use Rattle.literal_base.specs.Greedy.{IsGreedy}

@@ -1,5 +1,5 @@
-use Rattle.std.proofs.Common.{◌≡◌, ◌∙◌, ◌+◌, ◌-◌, ◌∷◌, ◌≤◌, [], Bool, Err, List, None, Ok, Option, Result, Some, ap, arith}
-use Rattle.std.proofs.Common.{map, refl, subst, sym, ℕ}
+use Rattle.std.proofs.Common.{◌≡◌, ◌∙◌, ◌∷◌, [], Bool, Err, List, None, Ok, Option, Result, Some, ap, arith}
+use Rattle.std.proofs.Common.{map, refl, subst, ℕ}
 use Rattle.std.specs.Iterator.{Yields}
 use Rattle.std.specs.declared.io.Error.{Error}
 use Rattle.literal_base.specs.MatchValue.{MatchValue}

@@ -1,4 +1,4 @@
-use Rattle.std.proofs.Common.{◌≡◌, ◌∙◌, List, ℕ, length, map, refl, rules}
+use Rattle.std.proofs.Common.{◌≡◌, ◌∙◌, List, ℕ, map, refl, rules}
 use Rattle.std.proofs.lemmas.List.{length-map}
 use Rattle.std.specs.Borrow.{Bor}
 use Rattle.literal_search.specs.Inside.Stream.{AreMatches}

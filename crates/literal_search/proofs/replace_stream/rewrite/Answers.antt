@@ -1,8 +1,7 @@
 -- A text that is read piece by piece, and written with its matches rewritten.
-use Rattle.std.proofs.Common.{◌≡◌, ℕ, ◌+◌, ◌-◌, ◌≤◌, ◌++◌, [], Bool, IfErr, List, None, Option, Result, ap, arith, drop}
-use Rattle.std.proofs.Common.{eqb-true, false, length, of_calls, refl, subst, sym, true, ◌∙◌}
+use Rattle.std.proofs.Common.{◌≡◌, ℕ, ◌-◌, ◌++◌, [], IfErr, List, None, Option, Result, ap, arith, drop}
+use Rattle.std.proofs.Common.{eqb-true, of_calls, refl, subst, sym, true, ◌∙◌}
 use Rattle.std.proofs.KnownBytes.{Consumes-trans}
-use Rattle.std.proofs.lemmas.Grind.{common_steps}
 use Rattle.std.proofs.lemmas.List.{length-drop}
 use Rattle.std.proofs.lemmas.Option.{none-some}
 use Rattle.std.specs.Bool.{⊤}
@@ -13,14 +12,14 @@ use Rattle.std.specs.declared.io.Error.{Error}
 use Rattle.std.specs.declared.io.ErrorKind.{ErrorKind}
 use Rattle.literal_base.specs.MatchValue.{MatchValue}
 use Rattle.literal_search.specs.ReplacedStream.{StopsRewritingOf}
-use Rattle.literal_search.specs.Inside.Rewriting.{HasRewritten, IsOfFailure}
+use Rattle.literal_search.specs.Inside.Rewriting.{IsOfFailure}
 use Rattle.literal_search.specs.Inside.Stream.{AnswersAhead, held, kept_back, margin_of, reach_of}
 use Rattle.literal_search.specs.declared.replace_stream.ReplaceStreamError.{ReplaceStreamError}
 use Rattle.literal_search.specs.declared.stream.SoFar.TheVariants.{NoneBefore}
 use Rattle.literal_search.proofs.lemmas.Rewritten.{all_rewritten, none_rewritten, turn_matched, turn_passed}
 use Rattle.literal_search.proofs.replace_stream.rewrite.Goals.{in-Found+in_ok-put-in-Found+in_ok-after_write-in-Found}
 use Rattle.literal_search.proofs.replace_stream.rewrite.Goals.{in-NoneBefore+in_ok-put-in-NoneBefore}
-use Rattle.literal_search.proofs.lemmas.Streams.{read_in_part, read_whole}
+use Rattle.literal_search.proofs.lemmas.Streams.{read_whole}
 use Rattle.literal_search.proofs.replace_stream.rewrite.Goals as goal
 
 -- a write or a call that fails ends it
