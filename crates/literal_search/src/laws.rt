@@ -95,10 +95,10 @@ pub fn streams_are_greedy()
         → ended.offset - (longest_of search.query.patterns - 1) ≤ offset }
 {}
 
-/// The same of whole words: if the bytes of a reader are known, the words that an iteration over a stream has given begin
-/// the list of all whole words of these bytes (`so_far`). After its first `None`, without an error before it, they are
-/// that list (`whole`), and the iteration is past all bytes (`read`). After an error, no further whole word begins
-/// before the last bytes that were read, as many as the longest pattern has (`failed`).
+/// The same of whole words: if the bytes of a reader are known, the words that an iteration over a stream has given
+/// begin the list of all whole words of these bytes (`so_far`). After its first `None`, without an error before it,
+/// they are that list (`whole`), and the iteration is past all bytes (`read`). After an error, no further whole word
+/// begins before the last bytes that were read, as many as the longest pattern has (`failed`).
 pub fn word_streams_are_whole_words()
     ensures so_far { (words : WholeWordsValue) (bytes : List ℕ) (last : WordStreamValue) (all more : List MatchValue)
         → Yields GivesWordStreamed (word_stream_of words (Some bytes)) (map Ok all) last

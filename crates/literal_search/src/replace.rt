@@ -198,7 +198,7 @@ impl WholeWords {
         ensures error { IfErr result
             (RefusesToReplaceWords self.now haystack.now (map (λ r. r.now) replacements.now)) }
     {
-        self.replace_by_sides(alloc, haystack, haystack, replacements)
+        self.replace_all_by_sides(alloc, haystack, haystack, replacements)
     }
 
     /// Returns the bytes of the text with each whole word of [`WholeWords::find_text_iter`] replaced by the replacement
@@ -222,11 +222,11 @@ impl WholeWords {
         ensures error { IfErr result
             (RefusesToReplaceTextWords self.now text.now (map (λ r. r.now) replacements.now)) }
     {
-        self.replace_by_sides(alloc, text.as_bytes(), text.sides(), replacements)
+        self.replace_all_by_sides(alloc, text.as_bytes(), text.sides(), replacements)
     }
 
     /// The haystack with each whole word by its sides replaced by the replacement of its pattern.
-    fn replace_by_sides(
+    fn replace_all_by_sides(
         &self,
         alloc: Global,
         haystack: &[u8],

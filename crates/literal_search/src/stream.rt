@@ -168,7 +168,8 @@ pub(crate) struct Stream<R: Read + Drop> {
 impl<R: Read + Drop> Stream<R> {
     /// The start of a text, with room for a search.
     pub(crate) fn new(alloc: Global, sought: Sought<'_>, reader: R) -> Result<Stream<R>, AllocError>
-        ensures sound { IfOk result (λ s. IsSoundStream (reach_of sought.entry) s.window s.reading (R.remaining s.reader)) }
+        ensures sound { IfOk result (λ s. IsSoundStream (reach_of sought.entry) s.window s.reading
+            (R.remaining s.reader)) }
         ensures held { IfOk result (λ s. AreHeldFrom (margin_of sought.entry) s.at s.window) }
         ensures first { IfOk result (λ s. (search : SearchValue)
             → stream_value search s.window s.at s.reading (R.remaining s.reader) s.is_over

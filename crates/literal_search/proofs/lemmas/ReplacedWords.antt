@@ -64,14 +64,16 @@ module _ {words : WholeWordsValue} {haystack sides : List ℕ} {replacements : L
         span_is = ap (λ (m : WholeWordMatchesValue). m.span) step.gives.goes_on ∙ so_far.span_is;
         at_is = ap (λ (m : WholeWordMatchesValue). m.at) step.gives.goes_on ∙ sym end_is;
         so_far = subst (AreWordsUpToBy words haystack sides (whole_of haystack) (done ++ found ∷ [])) (sym end_is)
-            (words_next_by words haystack sides (whole_of haystack) done at found so_far.so_far first step.gives.not_empty);
+            (words_next_by words haystack sides (whole_of haystack) done at found so_far.so_far first
+            step.gives.not_empty);
         goes_on = λ more. grind (arith, append_assoc, slice_range, so_far.goes_on (found ∷ more));
       }
 
   -- behind the last whole word it is the whole
   pub words_written : {o : WordMatchesBySidesValue} → GivesWordBySides it None o
       → length replacements ≡ length words.search.query.patterns → (answer : List ℕ)
-      → answer ≡ text ++ slice_range haystack at (length haystack) → IsReplacedBy (AreWordsFromBy words sides) (length words.search.query.patterns) haystack
+      → answer ≡ text ++ slice_range haystack at (length haystack)
+      → IsReplacedBy (AreWordsFromBy words sides) (length words.search.query.patterns) haystack
       given answer
   words_written step count answer is = record {
     one_for_each = grind (arith, length-map);

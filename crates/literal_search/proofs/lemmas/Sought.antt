@@ -15,8 +15,8 @@ use Rattle.literal_search.specs.SearchValue.{longest_of}
 use Rattle.literal_search.specs.Stream.{AnswersSoFar, IsKnownBy}
 use Rattle.literal_search.specs.WholeWords.{IsFirstAlone, OccursAlone, WholeWordsValue}
 use Rattle.literal_search.specs.WholeWords.{is_word_at, is_word_before}
-use Rattle.literal_search.specs.Inside.Stream.{Answers, AnswersAhead, AreMatches, Begins, IsFirst, TellsOf, margin_of, reach_of}
-use Rattle.literal_search.specs.Inside.Stream.{search_of, shifted, told_later}
+use Rattle.literal_search.specs.Inside.Stream.{Answers, AnswersAhead, AreMatches, Begins, IsFirst, TellsOf, margin_of}
+use Rattle.literal_search.specs.Inside.Stream.{reach_of, search_of, shifted, told_later}
 use Rattle.literal_search.specs.declared.sought.Sought.{Sought}
 use Rattle.literal_search.specs.declared.sought.Sought.TheVariants.{Any, Words}
 use Rattle.literal_search.specs.declared.stream.SoFar.{SoFar}
@@ -118,7 +118,8 @@ module _ (words : WholeWordsValue) (text more : List ℕ) where
   patterns = words.search.query.patterns
 
   alone_prefix : (from i p : ℕ) → p + (longest_of patterns + 1) ≤ length text
-      → OccursAlone patterns words.search.ignore_case words.word_bytes (text ++ more) (rest_from (text ++ more) from) i p
+      → OccursAlone patterns words.search.ignore_case words.word_bytes (text ++ more) (rest_from (text ++ more) from)
+      i p
       → OccursAlone patterns words.search.ignore_case words.word_bytes text (between from (length text)) i p
   alone_prefix from i p inside o =
       let long = longest_is patterns i in record {
@@ -139,7 +140,8 @@ module _ (words : WholeWordsValue) (text more : List ℕ) where
 
   alone_longer : (from i p : ℕ) → p + (longest_of patterns + 1) ≤ length text
       → OccursAlone patterns words.search.ignore_case words.word_bytes text (between from (length text)) i p
-      → OccursAlone patterns words.search.ignore_case words.word_bytes (text ++ more) (rest_from (text ++ more) from) i p
+      → OccursAlone patterns words.search.ignore_case words.word_bytes (text ++ more) (rest_from (text ++ more) from)
+      i p
   alone_longer from i p inside o =
       let long = longest_is patterns i in record {
         occurs = record {
@@ -218,8 +220,8 @@ begins_behind (Any search) before text from near i p o =
     occurs_behind search.now.query.patterns search.now.ignore_case before text from i p o
 begins_behind (Words words) before text from near i p o =
     let patterns = words.now.search.query.patterns in
-    let size : (length before + p) + length (pattern_at patterns i) ≡ length before + (p + length (pattern_at patterns i))
-    = omega arith in
+    let size : (length before + p) + length (pattern_at patterns i)
+    ≡ length before + (p + length (pattern_at patterns i)) = omega arith in
     let after = o.occurs.after_start in
     record {
       occurs = occurs_behind patterns words.now.search.ignore_case before text from i p o.occurs;
@@ -238,8 +240,8 @@ begins_ahead (Any search) before text from near i p o =
     occurs_ahead search.now.query.patterns search.now.ignore_case before text from i p o
 begins_ahead (Words words) before text from near i p o =
     let patterns = words.now.search.query.patterns in
-    let size : (length before + p) + length (pattern_at patterns i) ≡ length before + (p + length (pattern_at patterns i))
-    = omega arith in
+    let size : (length before + p) + length (pattern_at patterns i)
+    ≡ length before + (p + length (pattern_at patterns i)) = omega arith in
     let after = o.occurs.after_start in
     record {
       occurs = occurs_ahead patterns words.now.search.ignore_case before text from i p o.occurs;
@@ -254,7 +256,8 @@ begins_ahead (Words words) before text from near i p o =
 module _ (s : Sought) (before text : List ℕ) (from : ℕ) (near : length before ≡ (length before + from) - margin_of s)
   where
     -- by any offset
-    ahead_at : (i p : ℕ) → Begins s (before ++ text) (length before + from) i p → Begins s text from i (p - length before)
+    ahead_at : (i p : ℕ) → Begins s (before ++ text) (length before + from) i p
+        → Begins s text from i (p - length before)
     ahead_at i p o =
         let after = goes_after s (before ++ text) (length before + from) i p o in
         let is : p ≡ length before + (p - length before) = omega (arith, after) in

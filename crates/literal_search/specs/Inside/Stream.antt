@@ -66,10 +66,11 @@ BeginsIn (Any search) text span = Occurs search.now.query.patterns search.now.ig
 BeginsIn (Words words) text span =
     OccursAlone words.now.search.query.patterns words.now.search.ignore_case words.now.word_bytes text span
 
--- the same from an offset on
+-- the leftmost one from an offset on
 abbrev pub IsFirst : Sought → List ℕ → ℕ → Option MatchValue → Type 0
 IsFirst sought text from = IsFirstIn sought text (rest_from text from)
 
+-- what begins from an offset on
 abbrev pub Begins : Sought → List ℕ → ℕ → ℕ → ℕ → Type 0
 Begins sought text from = BeginsIn sought text (rest_from text from)
 

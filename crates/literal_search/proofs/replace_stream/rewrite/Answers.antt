@@ -24,8 +24,9 @@ use Rattle.literal_search.proofs.replace_stream.rewrite.Goals as goal
 
 -- a write or a call that fails ends it
 stops_writing : {F W A : Type 0} (contents : W → Option (List ℕ))
-    (step : F → MatchValue → Bor (List ℕ) → MutBor W → Result ⊤ Error → MutBor W → F → Type 0) (AreMatches : List ℕ → ℕ → List MatchValue → Type 0)
-    (reach : ℕ) (replace : F) (unread left held written : Option (List ℕ)) (text : List ℕ) (failure : Option ErrorKind)
+    (step : F → MatchValue → Bor (List ℕ) → MutBor W → Result ⊤ Error → MutBor W → F → Type 0)
+    (AreMatches : List ℕ → ℕ → List MatchValue → Type 0) (reach : ℕ) (replace : F)
+    (unread left held written : Option (List ℕ)) (text : List ℕ) (failure : Option ErrorKind)
     (result : Result A ReplaceStreamError) (error : ReplaceStreamError) → Consumes unread left text
     → IsOfFailure None failure error → IsErrAnd result (λ e. e ≡ error)
     → IfErr result (StopsRewritingOf contents step AreMatches reach replace unread left held written)

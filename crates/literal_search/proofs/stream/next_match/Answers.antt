@@ -1,5 +1,5 @@
-use Rattle.std.proofs.Common.{◌≡◌, ◌+◌, ◌-◌, ◌≤◌, ◌++◌, ◌∙◌, [], List, ℕ, None, Some, ap, append-nil, arith, drop, false}
-use Rattle.std.proofs.Common.{length, length-append, refl, subst, sym, true}
+use Rattle.std.proofs.Common.{◌≡◌, ◌+◌, ◌-◌, ◌≤◌, ◌++◌, ◌∙◌, [], List, ℕ, None, Some, ap, append-nil, arith, drop}
+use Rattle.std.proofs.Common.{false, length, length-append, refl, subst, sym, true}
 use Rattle.std.proofs.Math.Seq.{drop-length}
 use Rattle.std.specs.IoError.{error_kind}
 use Rattle.literal_search.specs.SearchValue.{longest_of}

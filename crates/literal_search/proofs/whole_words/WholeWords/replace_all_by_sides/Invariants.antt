@@ -1,5 +1,5 @@
 use Rattle.literal_search.proofs.lemmas.ReplacedWords.{AreWordsWrittenTo}
-use Rattle.literal_search.proofs.whole_words.WholeWords.replace_by_sides.Given as goal
+use Rattle.literal_search.proofs.whole_words.WholeWords.replace_all_by_sides.Given as goal
 
 abbrev pub invariant-loop-found : goal.invariant-loop-found
 invariant-loop-found l =
