@@ -43,6 +43,7 @@ pub mod Rows
 pub mod Scan
 pub mod ScanNumbers
 pub mod Shadowed
+pub mod Sought
 pub mod Position
 pub mod States
 pub mod Streams

@@ -1,5 +1,5 @@
 -- A text that is read in pieces, and written with each match replaced by what a function writes for it.
-use Rattle.std.specs.Prelude.{◌≡◌, ⊤, ℕ, ◌+◌, ◌-◌, ◌<◌, ◌≤◌, ◌++◌, Bool, List, length, Ok, Option, Result, true, []}
+use Rattle.std.specs.Prelude.{◌≡◌, ⊤, ℕ, ◌+◌, ◌-◌, ◌<◌, ◌≤◌, ◌++◌, List, length, Ok, Option, Result}
 use Rattle.std.specs.Borrow.{Bor, MutBor}
 use Rattle.std.specs.Io.KnownBytes.{Appends, Consumes, IsAtEnd}
 use Rattle.std.specs.List.{FoldsTo, slice_range}
@@ -7,6 +7,7 @@ use Rattle.std.specs.declared.io.Error.{Error}
 use Rattle.literal_base.specs.Greedy.{IsGreedy}
 use Rattle.literal_base.specs.MatchValue.{MatchValue}
 use Rattle.literal_search.specs.SearchValue.{SearchValue, longest_of}
+use Rattle.literal_search.specs.WholeWords.{AreWordsFrom, WholeWordsValue}
 use Rattle.literal_search.specs.declared.replace_stream.ReplaceStreamError.{ReplaceStreamError}
 use Rattle.literal_search.specs.declared.replace_stream.ReplaceStreamError.TheVariants as stream
 
@@ -18,10 +19,9 @@ pub record RewritingValue (F : Type 0) : Type 0 where
   pub at : ℕ
 
 -- the matches that come before an offset: with those from there on they are all, whatever follows the text
-abbrev pub ComeFirst : SearchValue → List ℕ → ℕ → List MatchValue → Type 0
-ComeFirst search text at matches = (more : List ℕ) (behind : List MatchValue)
-    → IsGreedy search.query search.ignore_case (text ++ more) at behind
-    → IsGreedy search.query search.ignore_case (text ++ more) 0 (matches ++ behind)
+abbrev pub ComeFirst : (List ℕ → ℕ → List MatchValue → Type 0) → List ℕ → ℕ → List MatchValue → Type 0
+ComeFirst AreMatches text at matches = (more : List ℕ) (behind : List MatchValue)
+    → AreMatches (text ++ more) at behind → AreMatches (text ++ more) 0 (matches ++ behind)
 
 module _ {F W : Type 0} (contents : W → Option (List ℕ))
     (step : F → MatchValue → Bor (List ℕ) → MutBor W → Result ⊤ Error → MutBor W → F → Type 0) where
@@ -49,31 +49,56 @@ module _ {F W : Type 0} (contents : W → Option (List ℕ))
     pub inside : at ≤ length text
     pub rest : Appends last.written written (slice_range text last.at at)
 
-  module _ (search : SearchValue) (replace : F) (unread left held written : Option (List ℕ)) where
-    -- a text is read to its end, and the matches of the greedy list are rewritten
-    pub record RewritesAllBy : Type 0 where
-      pub text : List ℕ
-      pub matches : List MatchValue
-      pub reads : Consumes unread left text
-      pub end : IsAtEnd left
-      pub are_greedy : IsGreedy search.query search.ignore_case text 0 matches
-      pub are_rewritten : AreRewritten text matches replace held (length text) written
+  -- What is searched for: the matches of a text from an offset on. So many bytes decide about one, from its start on.
+  module _ (AreMatches : List ℕ → ℕ → List MatchValue → Type 0) (reach : ℕ) (replace : F)
+      (unread left held written : Option (List ℕ))
+    where
+      -- a text is read to its end, and its matches are rewritten
+      pub record RewritesAllOf : Type 0 where
+        pub text : List ℕ
+        pub matches : List MatchValue
+        pub reads : Consumes unread left text
+        pub end : IsAtEnd left
+        pub are_matches : AreMatches text 0 matches
+        pub are_rewritten : AreRewritten text matches replace held (length text) written
 
-    -- the text that was read is written with its matches rewritten, except for some of its last bytes, fewer than the
-    -- longest pattern has
-    pub record RewritesPartBy : Type 0 where
-      pub text : List ℕ
-      pub matches : List MatchValue
-      pub at : ℕ
-      pub reads : Consumes unread left text
-      pub far : length text ≤ at + (longest_of search.query.patterns - 1)
-      pub come_first : ComeFirst search text at matches
-      pub are_rewritten : AreRewritten text matches replace held at written
+      -- the text that was read is written with its matches rewritten, except for some of its last bytes, fewer than
+      -- decide about a match
+      pub record RewritesPartOf : Type 0 where
+        pub text : List ℕ
+        pub matches : List MatchValue
+        pub at : ℕ
+        pub reads : Consumes unread left text
+        pub far : length text ≤ at + (reach - 1)
+        pub come_first : ComeFirst AreMatches text at matches
+        pub are_rewritten : AreRewritten text matches replace held at written
 
-    -- why a text is not written so: memory was refused, and nothing is read or written; or a read failed, after the
-    -- known part was written; or a write or a call failed, after a text was read
-    abbrev pub StopsRewritingBy : ReplaceStreamError → Type 0
-    StopsRewritingBy stream.NotOneForEach = ⊥
-    StopsRewritingBy stream.OutOfMemory = (left ≡ unread) × (written ≡ held)
-    StopsRewritingBy (stream.ReadFailed error) = RewritesPartBy
-    StopsRewritingBy (stream.WriteFailed error) = (text : List ℕ) × Consumes unread left text
+      -- why a text is not written so: memory was refused, and nothing is read or written; or a read failed, after the
+      -- known part was written; or a write or a call failed, after a text was read
+      abbrev pub StopsRewritingOf : ReplaceStreamError → Type 0
+      StopsRewritingOf stream.NotOneForEach = ⊥
+      StopsRewritingOf stream.OutOfMemory = (left ≡ unread) × (written ≡ held)
+      StopsRewritingOf (stream.ReadFailed error) = RewritesPartOf
+      StopsRewritingOf (stream.WriteFailed error) = (text : List ℕ) × Consumes unread left text
+
+  -- `RewritesAllOf` for the greedy list, about whose matches the bytes of the longest pattern decide
+  abbrev pub RewritesAllBy : SearchValue → F → Option (List ℕ) → Option (List ℕ) → Option (List ℕ)
+      → Option (List ℕ) → Type 0
+  RewritesAllBy search =
+      RewritesAllOf (IsGreedy search.query search.ignore_case) (longest_of search.query.patterns)
+
+  -- `StopsRewritingOf` for the greedy list
+  abbrev pub StopsRewritingBy : SearchValue → F → Option (List ℕ) → Option (List ℕ) → Option (List ℕ)
+      → Option (List ℕ) → ReplaceStreamError → Type 0
+  StopsRewritingBy search =
+      StopsRewritingOf (IsGreedy search.query search.ignore_case) (longest_of search.query.patterns)
+
+  -- `RewritesAllOf` for whole words, about which one byte more decides
+  abbrev pub RewritesWordsBy : WholeWordsValue → F → Option (List ℕ) → Option (List ℕ) → Option (List ℕ)
+      → Option (List ℕ) → Type 0
+  RewritesWordsBy words = RewritesAllOf (AreWordsFrom words) (longest_of words.search.query.patterns + 1)
+
+  -- `StopsRewritingOf` for whole words
+  abbrev pub StopsRewritingWordsBy : WholeWordsValue → F → Option (List ℕ) → Option (List ℕ) → Option (List ℕ)
+      → Option (List ℕ) → ReplaceStreamError → Type 0
+  StopsRewritingWordsBy words = StopsRewritingOf (AreWordsFrom words) (longest_of words.search.query.patterns + 1)

@@ -12,6 +12,7 @@ use Rattle.literal_base.specs.MatchValue.{MatchValue}
 use Rattle.literal_base.specs.Occurs.{Occurs, rest_from}
 use Rattle.literal_base.specs.Query.{Query}
 use Rattle.literal_search.specs.SearchValue.{SearchValue, first_part, longest_of}
+use Rattle.literal_search.specs.WholeWords.{IsFirstAlone, OccursAlone, WholeWordsValue}
 use Rattle.literal_search.specs.declared.stream.SoFar.{SoFar}
 use Rattle.literal_search.specs.declared.stream.SoFar.TheVariants.{Found, NoneBefore}
 
@@ -65,15 +66,13 @@ pub record StreamValue : Type 0 where
   pub failure : Option ErrorKind
   pub is_over : Bool
 
--- the answer is the leftmost match in the bytes ahead, by its offsets in the text, whatever came before
-abbrev pub IsLeftmostAhead : SearchValue → ℕ → Option MatchValue → List ℕ → Type 0
-IsLeftmostAhead search offset answer ahead = (before : List ℕ) → length before ≡ offset
-    → IsLeftmost search.query search.ignore_case (before ++ ahead) (rest_from (before ++ ahead) offset) answer
+-- the answer is the leftmost match of a text from an offset on
+abbrev pub IsLeftmostFrom : SearchValue → List ℕ → ℕ → Option MatchValue → Type 0
+IsLeftmostFrom search text from = IsLeftmost search.query search.ignore_case text (rest_from text from)
 
--- whatever came before, no match begins in the bytes ahead between two offsets
-abbrev pub PassesOver : SearchValue → ℕ → ℕ → List ℕ → Type 0
-PassesOver search from to ahead = (before : List ℕ) → length before ≡ from → (i p : ℕ)
-    → Occurs search.query.patterns search.ignore_case (before ++ ahead) (rest_from (before ++ ahead) from) i p → to ≤ p
+-- a pattern occurs in a text, from an offset on
+abbrev pub OccursFrom : SearchValue → List ℕ → ℕ → ℕ → ℕ → Type 0
+OccursFrom search text from = Occurs search.query.patterns search.ignore_case text (rest_from text from)
 
 -- the bytes that are still to be read, if they are known
 abbrev pub known : Option (List ℕ) → List ℕ
@@ -90,57 +89,75 @@ pub record ReadsOn (unread : Option (List ℕ)) (failure : Option ErrorKind) (pi
 abbrev pub ReadsPiece : StreamValue → List ℕ → StreamValue → Type 0
 ReadsPiece old piece new = ReadsOn old.unread old.failure piece new.unread new.failure
 
--- the answer is the leftmost match in the bytes that were read and those known to follow. The search continues at its
--- end
-pub record GoesBehind (old : StreamValue) (found : MatchValue) (new : StreamValue) : Type 0 where
-  pub piece : List ℕ
-  pub reads : ReadsPiece old piece new
-  pub leftmost : IsLeftmostAhead old.search old.offset (Some found) ((old.held ++ piece) ++ known new.unread)
-  pub some : old.offset < found.end
-  pub within : found.end ≤ old.offset + length (old.held ++ piece)
-  pub fits : found.end < 2 ^ 64
-  pub goes_on : new ≡ record old {
-    held = drop (found.end - old.offset) (old.held ++ piece);
+-- What a stream is searched for: the leftmost answer in a text from an offset on, and what begins there. The bytes of a
+-- match decide whether it counts, and so many bytes on each side. The bytes ahead begin so many bytes before the offset
+-- at which the search continues, or at the start of the text.
+module _ (IsFirst : List ℕ → ℕ → Option MatchValue → Type 0) (Begins : List ℕ → ℕ → ℕ → ℕ → Type 0) (margin : ℕ) where
+  -- the answer is the leftmost one in the bytes ahead, by its offsets in the text, whatever came before
+  abbrev pub IsFirstAhead : ℕ → Option MatchValue → List ℕ → Type 0
+  IsFirstAhead offset answer ahead = (before : List ℕ) → length before ≡ offset - margin
+      → IsFirst (before ++ ahead) offset answer
+
+  -- whatever came before, nothing begins in the bytes ahead between two offsets
+  abbrev pub PassesOver : ℕ → ℕ → List ℕ → Type 0
+  PassesOver from to ahead = (before : List ℕ) → length before ≡ from - margin → (i p : ℕ)
+      → Begins (before ++ ahead) from i p → to ≤ p
+
+  -- the answer is the leftmost match in the bytes that were read and those known to follow. The search continues at its
+  -- end
+  pub record GoesBehind (old : StreamValue) (found : MatchValue) (new : StreamValue) : Type 0 where
+    pub piece : List ℕ
+    pub reads : ReadsPiece old piece new
+    pub leftmost : IsFirstAhead old.offset (Some found) ((old.held ++ piece) ++ known new.unread)
+    pub some : old.offset < found.end
+    pub within : found.end ≤ (old.offset - margin) + length (old.held ++ piece)
+    pub fits : found.end < 2 ^ 64
+    pub goes_on : new ≡ record old {
+      held = drop ((found.end - margin) - (old.offset - margin)) (old.held ++ piece);
+      unread = new.unread;
+      offset = found.end;
+      failure = new.failure;
+    }
+
+  -- the search has ended, past all bytes that were read
+  abbrev pub stream_over : StreamValue → List ℕ → StreamValue → StreamValue
+  stream_over old piece new = record old {
+    held = [];
     unread = new.unread;
-    offset = found.end;
+    offset = (old.offset - margin) + length (old.held ++ piece);
     failure = new.failure;
+    is_over = true;
   }
 
--- the search has ended, past all bytes that were read
-abbrev pub stream_over : StreamValue → List ℕ → StreamValue → StreamValue
-stream_over old piece new = record old {
-  held = [];
-  unread = new.unread;
-  offset = old.offset + length (old.held ++ piece);
-  failure = new.failure;
-  is_over = true;
-}
+  -- the text has ended, no reading failed, and there is nothing in the bytes ahead
+  pub record EndsWhole (old new : StreamValue) : Type 0 where
+    pub piece : List ℕ
+    pub reads : ReadsPiece old piece new
+    pub end : IsAtEnd new.unread
+    pub no_failure : new.failure ≡ None
+    pub nothing : IsFirstAhead old.offset None (old.held ++ piece)
+    pub over : new ≡ stream_over old piece new
 
--- the text has ended, no reading failed, and nothing occurs in the bytes ahead
-pub record EndsWhole (old new : StreamValue) : Type 0 where
-  pub piece : List ℕ
-  pub reads : ReadsPiece old piece new
-  pub end : IsAtEnd new.unread
-  pub no_failure : new.failure ≡ None
-  pub nothing : IsLeftmostAhead old.search old.offset None (old.held ++ piece)
-  pub over : new ≡ stream_over old piece new
+  -- reading failed with the error, and no match is known from the bytes read. Whatever follows, none begins before the
+  -- last bytes, one fewer than decide about the longest pattern
+  pub record EndsFailed (old : StreamValue) (error : Error) (new : StreamValue) : Type 0 where
+    pub piece : List ℕ
+    pub reads : ReadsPiece old piece new
+    pub failure : new.failure ≡ Some (error_kind error)
+    pub nothing : (more : List ℕ) → PassesOver old.offset
+        (new.offset - (longest_of old.search.query.patterns + margin - 1)) ((old.held ++ piece) ++ more)
+    pub over : new ≡ stream_over old piece new
 
--- reading failed with the error, and no match is known from the bytes read. Whatever follows, none begins before the
--- last bytes, one fewer than the longest pattern has
-pub record EndsFailed (old : StreamValue) (error : Error) (new : StreamValue) : Type 0 where
-  pub piece : List ℕ
-  pub reads : ReadsPiece old piece new
-  pub failure : new.failure ≡ Some (error_kind error)
-  pub nothing : (more : List ℕ) → PassesOver old.search old.offset
-      (new.offset - (longest_of old.search.query.patterns - 1)) ((old.held ++ piece) ++ more)
-  pub over : new ≡ stream_over old piece new
+  -- the answer of `next`: the leftmost match in the bytes ahead, None if there is none, or the error with which reading
+  -- failed. After None or an error it has ended, always gives None, and is unchanged
+  abbrev pub GivesAhead : StreamValue → Option (Result MatchValue Error) → StreamValue → Type 0
+  GivesAhead old None new = (old.is_over ≡ true → new ≡ old) × (old.is_over ≡ false → EndsWhole old new)
+  GivesAhead old (Some answer) new = (old.is_over ≡ false) × (old.offset < 2 ^ 64)
+      × MatchResult answer (λ found. GoesBehind old found new) (λ error. EndsFailed old error new)
 
--- the answer of `next`: the leftmost match in the bytes ahead, None if nothing occurs there, or the error with which
--- reading failed. After None or an error it has ended, always gives None, and is unchanged
+-- the answer of the `next` of a `StreamMatches`, by the leftmost match
 abbrev pub GivesStreamed : StreamValue → Option (Result MatchValue Error) → StreamValue → Type 0
-GivesStreamed old None new = (old.is_over ≡ true → new ≡ old) × (old.is_over ≡ false → EndsWhole old new)
-GivesStreamed old (Some answer) new = (old.is_over ≡ false) × (old.offset < 2 ^ 64)
-    × MatchResult answer (λ found. GoesBehind old found new) (λ error. EndsFailed old error new)
+GivesStreamed old = GivesAhead (IsLeftmostFrom old.search) (OccursFrom old.search) 0 old
 
 -- an upper bound on the answers to come: each match has at least one byte, and an error is the last answer
 abbrev pub most_streamed : StreamValue → Count
@@ -150,3 +167,38 @@ most_streamed m = at_most (if m.is_over then 0 else 2 ^ 64 - m.offset)
 abbrev pub stream_of : SearchValue → Option (List ℕ) → StreamValue
 stream_of search unread =
     record { search = search; held = []; unread = unread; offset = 0; failure = None; is_over = false }
+
+-- the answer is the leftmost whole word of a text from an offset on
+abbrev pub IsFirstWordFrom : WholeWordsValue → List ℕ → ℕ → Option MatchValue → Type 0
+IsFirstWordFrom words text from = IsFirstAlone words text (rest_from text from)
+
+-- a pattern occurs in a text as a whole word, from an offset on
+abbrev pub OccursAloneFrom : WholeWordsValue → List ℕ → ℕ → ℕ → ℕ → Type 0
+OccursAloneFrom words text from =
+    OccursAlone words.search.query.patterns words.search.ignore_case words.word_bytes text (rest_from text from)
+
+-- a `WholeWordStreamMatches` as contracts see it: the stream, and which bytes are word bytes. The bytes ahead begin one
+-- byte before the offset at which the search continues, or at the start of the text
+pub record WordStreamValue : Type 0 where
+  pub stream : StreamValue
+  pub word_bytes : List Bool
+
+-- the search for whole words
+abbrev pub words_in : WordStreamValue → WholeWordsValue
+words_in m = record { search = m.stream.search; word_bytes = m.word_bytes }
+
+-- the answer of the `next` of a `WholeWordStreamMatches`, by the leftmost whole word
+pub record GivesWordStreamed (old : WordStreamValue) (answer : Option (Result MatchValue Error)) (new : WordStreamValue)
+    : Type 0 where
+  pub gives : GivesAhead (IsFirstWordFrom (words_in old)) (OccursAloneFrom (words_in old)) 1 old.stream answer
+      new.stream
+  pub same : new.word_bytes ≡ old.word_bytes
+
+-- `most_streamed` of a `WholeWordStreamMatches`
+abbrev pub most_words_streamed : WordStreamValue → Count
+most_words_streamed m = most_streamed m.stream
+
+-- a search for whole words that has not begun, in what a reader gives, if that is known
+abbrev pub word_stream_of : WholeWordsValue → Option (List ℕ) → WordStreamValue
+word_stream_of words unread =
+    record { stream = stream_of words.search unread; word_bytes = words.word_bytes }

@@ -7,7 +7,7 @@ use Rattle.literal_base.specs.Bytes.{contains}
 use Rattle.literal_base.specs.Counts.{Counts}
 use Rattle.literal_base.specs.Leftmost.{IsBetter}
 use Rattle.literal_base.specs.MatchValue.{MatchValue}
-use Rattle.literal_base.specs.Occurs.{Occurs, between, pattern_at}
+use Rattle.literal_base.specs.Occurs.{Occurs, between, pattern_at, rest_from}
 use Rattle.literal_base.specs.Query.{Query}
 use Rattle.literal_base.specs.declared.search.Span.{Span}
 use Rattle.literal_search.specs.MatchesValue.{LooksOn, offset_after_start, offset_at_end}
@@ -93,6 +93,14 @@ AreWholeWordsBy words haystack sides span (found ∷ more) =
 -- span after it
 abbrev pub AreWholeWords : WholeWordsValue → List ℕ → Span → List MatchValue → Type 0
 AreWholeWords words haystack = AreWholeWordsBy words haystack haystack
+
+-- `AreWordsFrom` by the sides of the haystack
+abbrev pub AreWordsFromBy : WholeWordsValue → List ℕ → List ℕ → ℕ → List MatchValue → Type 0
+AreWordsFromBy words sides haystack at = AreWholeWordsBy words haystack sides (rest_from haystack at)
+
+-- all whole words from an offset on
+abbrev pub AreWordsFrom : WholeWordsValue → List ℕ → ℕ → List MatchValue → Type 0
+AreWordsFrom words haystack = AreWordsFromBy words haystack haystack
 
 -- a `WholeWordMatches` as contracts see it: the words, the haystack, the span, the offset from which it continues, the
 -- offset from which it looks for the next pattern, and the offset up to which it has looked

@@ -25,7 +25,9 @@ ghost use Rattle.literal_search.specs.PreparedOverlapping.{IsPreparedOverlapping
 ghost use Rattle.literal_search.specs.Replaced.{replaced};
 ghost use Rattle.literal_search.specs.declared.backward.TheConstants.{LEAST};
 ghost use Rattle.literal_search.specs.declared.prepared.ArrayTooShort.{ArrayTooShort};
-ghost use Rattle.literal_search.specs.Stream.{GivesStreamed, StreamValue, stream_of};
+ghost use Rattle.literal_search.specs.Stream.{GivesStreamed, GivesWordStreamed, StreamValue, WordStreamValue};
+ghost use Rattle.literal_search.specs.Stream.{stream_of, word_stream_of};
+ghost use Rattle.literal_search.specs.WholeWords.{AreWholeWords, OccursAlone, WholeWordsValue};
 
 /// After an iterator answers `None`, it is at the end of its span (`ends`). There it always answers `None` and stays.
 pub fn none_is_for_good()
@@ -91,6 +93,29 @@ pub fn streams_are_greedy()
         → GivesStreamed last (Some (Err error)) ended → (i offset : ℕ)
         → Occurs search.query.patterns search.ignore_case bytes (rest_from bytes last.offset) i offset
         → ended.offset - (longest_of search.query.patterns - 1) ≤ offset }
+{}
+
+/// The same of whole words: if the bytes of a reader are known, the words that an iteration over a stream has given
+/// begin the list of all whole words of these bytes (`so_far`). After its first `None`, without an error before it,
+/// they are that list (`whole`), and the iteration is past all bytes (`read`). After an error, no further whole word
+/// begins before the last bytes that were read, as many as the longest pattern has (`failed`).
+pub fn word_streams_are_whole_words()
+    ensures so_far { (words : WholeWordsValue) (bytes : List ℕ) (last : WordStreamValue) (all more : List MatchValue)
+        → Yields GivesWordStreamed (word_stream_of words (Some bytes)) (map Ok all) last
+        → AreWholeWords words bytes (rest_from bytes last.stream.offset) more
+        → AreWholeWords words bytes (whole_of bytes) (all ++ more) }
+    ensures whole { (words : WholeWordsValue) (bytes : List ℕ) (last ended : WordStreamValue) (all : List MatchValue)
+        → Yields GivesWordStreamed (word_stream_of words (Some bytes)) (map Ok all) last
+        → GivesWordStreamed last None ended → AreWholeWords words bytes (whole_of bytes) all }
+    ensures read { (words : WholeWordsValue) (bytes : List ℕ) (last ended : WordStreamValue) (all : List MatchValue)
+        → Yields GivesWordStreamed (word_stream_of words (Some bytes)) (map Ok all) last
+        → GivesWordStreamed last None ended → ended.stream.offset ≡ length bytes }
+    ensures failed { (words : WholeWordsValue) (bytes : List ℕ) (last ended : WordStreamValue) (all : List MatchValue)
+        (error : Error) → Yields GivesWordStreamed (word_stream_of words (Some bytes)) (map Ok all) last
+        → GivesWordStreamed last (Some (Err error)) ended → (i offset : ℕ)
+        → OccursAlone words.search.query.patterns words.search.ignore_case words.word_bytes bytes
+        (rest_from bytes last.stream.offset) i offset
+        → ended.stream.offset - longest_of words.search.query.patterns ≤ offset }
 {}
 
 /// If the bytes of a reader are known, an iteration over every occurrence in a stream gives each of them once before

@@ -35,12 +35,14 @@ mod replace_stream;
 mod scan;
 mod search;
 mod shadowed;
+mod sought;
 mod stream;
 mod suffixes;
 mod walk;
 mod whole_words;
 mod window;
 mod word_search;
+mod word_stream;
 mod word_text;
 
 pub use automaton::{Automaton, State};
@@ -67,6 +69,7 @@ use std::error::Error;
 use std::fmt;
 pub use stream::{SoFar, StreamMatches};
 pub use whole_words::{WholeWordMatches, WholeWords};
+pub use word_stream::WholeWordStreamMatches;
 pub use word_text::{WordMatchesBySides, WordText};
 
 /// Why no search is built for some patterns.

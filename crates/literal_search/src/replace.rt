@@ -2,12 +2,14 @@
 ghost use Rattle.std.specs.Prelude.{◌≡◌, ◌+◌, ◌*◌, ◌<◌, ◌≤◌, IfErr, IfOk, OnErr, length, map, string_bytes};
 ghost use Rattle.std.specs.List.{All};
 ghost use Rattle.std.specs.Str.{IsUtf8};
-ghost use Rattle.literal_search.specs.Replaced.{AreWordsReplaced, AreWordsWritten, IsReplaced, IsWritten};
-ghost use Rattle.literal_search.specs.Replaced.{RefusesToReplace, RefusesToReplaceWords};
+ghost use Rattle.literal_search.specs.Replaced.{AreTextWordsReplaced, AreWordsReplaced, AreWordsWritten, IsReplaced};
+ghost use Rattle.literal_search.specs.Replaced.{IsReplacedBy, IsWritten, RefusesToReplace, RefusesToReplaceBy};
+ghost use Rattle.literal_search.specs.Replaced.{RefusesToReplaceTextWords, RefusesToReplaceWords};
 ghost use Rattle.literal_search.specs.SearchValue.{ScansListAtMost, longest_of};
+ghost use Rattle.literal_search.specs.WholeWords.{AreWordsFromBy};
 ghost use Rattle.literal_search.specs.declared.backward.TheConstants.{LEAST};
 
-use crate::{Match, Search, Span, Tally, WholeWords};
+use crate::{Match, Search, Span, Tally, WholeWords, WordText};
 use std::alloc::{AllocError, Global};
 use std::error::Error;
 use std::fmt;
@@ -196,12 +198,54 @@ impl WholeWords {
         ensures error { IfErr result
             (RefusesToReplaceWords self.now haystack.now (map (λ r. r.now) replacements.now)) }
     {
+        self.replace_all_by_sides(alloc, haystack, haystack, replacements)
+    }
+
+    /// Returns the bytes of the text with each whole word of [`WholeWords::find_text_iter`] replaced by the replacement
+    /// of its pattern, as [`WholeWords::replace_all`] does. Allocates only if the answer is not empty.
+    ///
+    /// ```rust
+    /// let (set, words) = (WholeWords::ascii_word_bytes(), [b"lan".as_slice()]);
+    /// let search = WholeWords::new(alloc, MatchKind::LeftmostFirst, false, set, words)?;
+    /// let text = WordText::new(alloc, "élan, lan")?;
+    /// let replaced = search.replace_text_all(alloc, &text, &[b"net"])?;
+    /// assert!(rt; replaced.as_slice() == "élan, net".as_bytes());
+    /// ```
+    pub fn replace_text_all(
+        &self,
+        alloc: Global,
+        text: &WordText<'_>,
+        replacements: &[&[u8]],
+    ) -> Result<Vec<u8>, ReplaceError>
+        ensures ok { IfOk result
+            (λ bytes. AreTextWordsReplaced self.now text.now (map (λ r. r.now) replacements.now) bytes.items) }
+        ensures error { IfErr result
+            (RefusesToReplaceTextWords self.now text.now (map (λ r. r.now) replacements.now)) }
+    {
+        self.replace_all_by_sides(alloc, text.as_bytes(), text.sides(), replacements)
+    }
+
+    /// The haystack with each whole word by its sides replaced by the replacement of its pattern.
+    fn replace_all_by_sides(
+        &self,
+        alloc: Global,
+        haystack: &[u8],
+        sides: &[u8],
+        replacements: &[&[u8]],
+    ) -> Result<Vec<u8>, ReplaceError>
+        requires { length sides.now ≡ length haystack.now }
+        ensures ok { IfOk result (λ text. IsReplacedBy (AreWordsFromBy self.now sides.now)
+            (length self.now.search.query.patterns) haystack.now (map (λ r. r.now) replacements.now) text.items) }
+        ensures error { IfErr result (RefusesToReplaceBy (AreWordsFromBy self.now sides.now)
+            (length self.now.search.query.patterns) haystack.now (map (λ r. r.now) replacements.now)) }
+    {
         if replacements.len() != self.patterns_len() {
             return Err(ReplaceError::NotOneForEach);
         }
         let mut text = Vec::new(alloc);
         let mut at = 0;
-        for found in self.find_iter(haystack) {
+        let end = haystack.len();
+        for found in self.matches_by_sides(haystack, sides, Span { start: 0, end }) {
             text.extend_from_slice(&haystack[at..found.start()])?;
             text.extend_from_slice(replacements[found.pattern().as_usize()])?;
             at = found.end();

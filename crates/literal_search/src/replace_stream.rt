@@ -1,18 +1,20 @@
 //! Replaces each match in a text that is read in pieces, and writes the result as far as it is known.
-ghost use Rattle.std.specs.Prelude.{◌≡◌, [], Err, IfErr, MatchResult, None, Ok, OnOk, map};
+ghost use Rattle.std.specs.Prelude.{◌≡◌, [], Err, IfErr, MatchResult, None, Ok, OnOk, length, map};
 ghost use Rattle.std.specs.Io.KnownBytes.{Appends};
 ghost use Rattle.literal_base.specs.Occurs.{pattern_at};
-ghost use Rattle.literal_search.specs.Replaced.{RewritesAll, StopsRewriting};
-ghost use Rattle.literal_search.specs.ReplacedStream.{RewritesAllBy, StopsRewritingBy};
-ghost use Rattle.literal_search.specs.SearchValue.{longest_of};
+ghost use Rattle.literal_search.specs.Replaced.{ReplacesAll, RewritesAll, RewritesWords, StopsReplacing};
+ghost use Rattle.literal_search.specs.Replaced.{StopsRewriting, StopsRewritingWords};
+ghost use Rattle.literal_search.specs.ReplacedStream.{RewritesAllBy, RewritesAllOf, RewritesWordsBy};
+ghost use Rattle.literal_search.specs.ReplacedStream.{StopsRewritingBy, StopsRewritingOf, StopsRewritingWordsBy};
 ghost use Rattle.literal_search.specs.declared.replace_stream.ReplaceStreamError.TheVariants.{WriteFailed};
 ghost use Rattle.literal_search.specs.Inside.Rewriting.{IsOfFailure};
-ghost use Rattle.literal_search.specs.Inside.Stream.{IsSoundStream, IsWindow, held};
+ghost use Rattle.literal_search.specs.Inside.Stream.{AreMatches, IsSoundStream, held, reach_of, search_of};
 
 use crate::reading::Reading;
+use crate::sought::Sought;
 use crate::stream::next_known;
 use crate::window::Window;
-use crate::{Match, Search, SoFar};
+use crate::{Match, Search, SoFar, WholeWords};
 use std::alloc::{AllocError, Global};
 use std::error::Error;
 use std::fmt;
@@ -95,19 +97,7 @@ impl Search {
         ensures error { IfErr result (StopsRewriting self.now (map (λ r. r.now) replacements.now)
             (R.remaining reader.old) (R.remaining reader.new) (W.contents writer.old) (W.contents writer.new)) }
     {
-        if replacements.len() != self.patterns_len() {
-            return Err(ReplaceStreamError::NotOneForEach);
-        }
-        self.replace_stream_with(
-            alloc,
-            reader,
-            writer,
-            |found: Match, _bytes: &[u8], writer: &mut W| put_replacement(
-                replacements,
-                found,
-                writer,
-            ),
-        )
+        replace_each(Sought::Any(self), alloc, reader, writer, replacements)
     }
 
     /// Reads a text to its end, and writes it with each match replaced by what a function writes for it. The function
@@ -139,11 +129,118 @@ impl Search {
         ensures error { IfErr result (StopsRewritingBy W.contents F.step self.now replace (R.remaining reader.old)
             (R.remaining reader.new) (W.contents writer.old) (W.contents writer.new)) }
     {
-        let longest = self.max_pattern_len();
-        let mut window = Window::new(alloc, longest.saturating_mul(2))?;
-        let (reading, failure) = (&mut Reading::new(), &mut None);
-        rewrite(self, &mut window, reader, reading, writer, failure, replace)
+        replace_with(Sought::Any(self), alloc, reader, writer, replace)
     }
+}
+
+impl WholeWords {
+    /// Reads a text to its end, and writes it with each whole word replaced by the replacement of its pattern. It
+    /// writes what [`WholeWords::replace_all`] returns for the whole text, whatever pieces it comes in. There has to be
+    /// one replacement for each pattern, in the order of their numbers. The buffer is that of
+    /// [`WholeWords::find_stream`]. The writer is not flushed.
+    ///
+    /// If reading fails, the part of the result that is known is written before the error is returned. It covers the
+    /// bytes that were read, except at most the last ones, no more than the longest pattern has. The result for the
+    /// whole text begins with this part, whatever follows. If a write fails, it is not known how many of its bytes were
+    /// written.
+    ///
+    /// ```rust
+    /// let words = [b"apple".as_slice(), b"maple"];
+    /// let set = WholeWords::ascii_word_bytes();
+    /// let search = WholeWords::new(alloc, MatchKind::LeftmostFirst, true, set, words)?;
+    /// let (mut text, mut written) = (b"Maple or apples?".as_slice(), Vec::new(alloc));
+    /// search.replace_stream(alloc, &mut text, &mut written, &[b"pear", b"oak"])?;
+    /// assert!(rt; written.as_slice() == b"oak or apples?".as_slice());
+    /// ```
+    pub fn replace_stream<R: Read, W: Write>(
+        &self,
+        alloc: Global,
+        reader: &mut R,
+        writer: &mut W,
+        replacements: &[&[u8]],
+    ) -> Result<(), ReplaceStreamError>
+        ensures ok { OnOk result (RewritesWords self.now (map (λ r. r.now) replacements.now)
+            (R.remaining reader.old) (R.remaining reader.new) (W.contents writer.old) (W.contents writer.new)) }
+        ensures error { IfErr result (StopsRewritingWords self.now (map (λ r. r.now) replacements.now)
+            (R.remaining reader.old) (R.remaining reader.new) (W.contents writer.old) (W.contents writer.new)) }
+    {
+        replace_each(Sought::Words(self), alloc, reader, writer, replacements)
+    }
+
+    /// Reads a text to its end, and writes it with each whole word replaced by what a function writes for it, called as
+    /// in [`Search::replace_stream_with`]. The words are those of [`WholeWords::find_iter`] in the whole text, with
+    /// offsets in the whole text, whatever pieces it comes in. Errors come as in [`WholeWords::replace_stream`], and an
+    /// error of the function is [`ReplaceStreamError::WriteFailed`].
+    pub fn replace_stream_with<R: Read, W: Write, F: FnMut(Match, &[u8], &mut W) -> io::Result<()>>(
+        &self,
+        alloc: Global,
+        reader: &mut R,
+        writer: &mut W,
+        replace: F,
+    ) -> Result<(), ReplaceStreamError>
+        requires { F.IsAlwaysCallable replace }
+        ensures ok { OnOk result (RewritesWordsBy W.contents F.step self.now replace (R.remaining reader.old)
+            (R.remaining reader.new) (W.contents writer.old) (W.contents writer.new)) }
+        ensures error { IfErr result (StopsRewritingWordsBy W.contents F.step self.now replace
+            (R.remaining reader.old) (R.remaining reader.new) (W.contents writer.old) (W.contents writer.new)) }
+    {
+        replace_with(Sought::Words(self), alloc, reader, writer, replace)
+    }
+}
+
+/// Writes a text with each match replaced by the replacement of its pattern.
+fn replace_each<R: Read, W: Write>(
+    sought: Sought<'_>,
+    alloc: Global,
+    reader: &mut R,
+    writer: &mut W,
+    replacements: &[&[u8]],
+) -> Result<(), ReplaceStreamError>
+    ensures ok { OnOk result (ReplacesAll (AreMatches sought.entry) (length (search_of sought.entry).query.patterns)
+        (reach_of sought.entry) (map (λ r. r.now) replacements.now) (R.remaining reader.old) (R.remaining reader.new)
+        (W.contents writer.old) (W.contents writer.new)) }
+    ensures error { IfErr result (StopsReplacing (AreMatches sought.entry)
+        (length (search_of sought.entry).query.patterns) (reach_of sought.entry) (map (λ r. r.now) replacements.now)
+        (R.remaining reader.old) (R.remaining reader.new) (W.contents writer.old) (W.contents writer.new)) }
+{
+    if replacements.len() != sought.patterns_len() {
+        return Err(ReplaceStreamError::NotOneForEach);
+    }
+    replace_with(
+        sought,
+        alloc,
+        reader,
+        writer,
+        |found: Match, _bytes: &[u8], writer: &mut W| put_replacement(replacements, found, writer),
+    )
+}
+
+/// Writes a text with each match replaced by what a function writes for it.
+fn replace_with<R: Read, W: Write, F: FnMut(Match, &[u8], &mut W) -> io::Result<()>>(
+    sought: Sought<'_>,
+    alloc: Global,
+    reader: &mut R,
+    writer: &mut W,
+    replace: F,
+) -> Result<(), ReplaceStreamError>
+    requires { F.IsAlwaysCallable replace }
+    ensures ok { OnOk result (RewritesAllOf W.contents F.step (AreMatches sought.entry) (reach_of sought.entry) replace
+        (R.remaining reader.old) (R.remaining reader.new) (W.contents writer.old) (W.contents writer.new)) }
+    ensures error { IfErr result (StopsRewritingOf W.contents F.step (AreMatches sought.entry)
+        (reach_of sought.entry) replace (R.remaining reader.old) (R.remaining reader.new) (W.contents writer.old)
+        (W.contents writer.new)) }
+{
+    let mut window = Window::new(alloc, sought.reach().saturating_mul(2))?;
+    let (reading, failure) = (&mut Reading::new(), &mut None);
+    rewrite(
+        sought,
+        &mut window,
+        reader,
+        reading,
+        writer,
+        failure,
+        replace,
+    )
 }
 
 /// Writes the replacement of a match, or nothing if there is none.
@@ -160,7 +257,7 @@ fn put_replacement<W: Write>(replacements: &[&[u8]], found: Match, writer: &mut 
 /// Reads a text through an empty window, and writes it with its matches replaced. If writing fails, `failure` is the
 /// kind of the error.
 fn rewrite<R: Read, W: Write, F: FnMut(Match, &[u8], &mut W) -> io::Result<()>>(
-    search: &Search,
+    sought: Sought<'_>,
     window: &mut Window,
     reader: &mut R,
     reading: &mut Reading,
@@ -168,34 +265,35 @@ fn rewrite<R: Read, W: Write, F: FnMut(Match, &[u8], &mut W) -> io::Result<()>>(
     failure: &mut Option<ErrorKind>,
     mut replace: F,
 ) -> Result<(), ReplaceStreamError>
-    requires sound { IsSoundStream (longest_of search.now.query.patterns) window.old reading.old
-        (R.remaining reader.old) }
+    requires sound { IsSoundStream (reach_of sought) window.old reading.old (R.remaining reader.old) }
     requires empty { held window.old ≡ [] }
     requires first { window.old.offset ≡ 0 }
     requires callable { F.IsAlwaysCallable replace }
-    ensures ok { OnOk result (RewritesAllBy W.contents F.step search.now replace (R.remaining reader.old)
-        (R.remaining reader.new) (W.contents writer.old) (W.contents writer.new)) }
-    ensures error { IfErr result (StopsRewritingBy W.contents F.step search.now replace (R.remaining reader.old)
-        (R.remaining reader.new) (W.contents writer.old) (W.contents writer.new)) }
+    ensures ok { OnOk result (RewritesAllOf W.contents F.step (AreMatches sought.entry) (reach_of sought.entry) replace
+        (R.remaining reader.old) (R.remaining reader.new) (W.contents writer.old) (W.contents writer.new)) }
+    ensures error { IfErr result (StopsRewritingOf W.contents F.step (AreMatches sought.entry)
+        (reach_of sought.entry) replace (R.remaining reader.old) (R.remaining reader.new) (W.contents writer.old)
+        (W.contents writer.new)) }
     ensures cause { IfErr result (IsOfFailure reading.new.failure failure.new) }
 {
-    let mut is_over = false;
+    let (mut at, mut is_over) = (0, false);
     while !is_over {
-        let to = match next_known(search, window, reader, reading) {
+        let to = match next_known(sought, window, at, reader, reading) {
             SoFar::Found(found) => {
-                put(&window.held()[..found.start()], writer, failure)?;
-                let bytes = &window.held()[found.start()..found.end()];
-                let answer = replace(found.offset(window.offset), bytes, writer);
+                put(window.between(at, found.start()), writer, failure)?;
+                let bytes = window.between(found.start(), found.end());
+                let answer = replace(found, bytes, writer);
                 after_write(answer, failure)?;
                 found.end()
             }
             SoFar::NoneBefore(offset) => {
-                put(&window.held()[..offset], writer, failure)?;
+                put(window.between(at, offset), writer, failure)?;
                 offset
             }
         };
-        window.pass(to);
-        is_over = to == 0;
+        window.hold_from(to, sought.margin());
+        is_over = to == at;
+        at = to;
     }
     match reading.take_error() {
         Some(error) => Err(ReplaceStreamError::ReadFailed(error)),

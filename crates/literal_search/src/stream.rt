@@ -1,19 +1,21 @@
 //! Searches in texts that may continue, and in texts that are read in pieces.
-ghost use Rattle.std.specs.Prelude.{◌≡◌, ◌+◌, ◌<◌, ◌≤◌, ◌++◌, [], ℕ, Bool, List, drop, length, false, true};
+ghost use Rattle.std.specs.Prelude.{◌≡◌, ◌+◌, ◌<◌, ◌≤◌, ◌++◌, [], ℕ, Bool, List, length, false, true};
 ghost use Rattle.std.specs.Prelude.{IfOk, IfSome, MatchOption, MatchResult};
 ghost use Rattle.std.specs.Io.KnownBytes.{Consumes};
 ghost use Rattle.literal_base.specs.Leftmost.{IsLeftmost};
 ghost use Rattle.literal_base.specs.Occurs.{NoneIsEmpty, between};
 ghost use Rattle.literal_base.specs.Query.{Query};
 ghost use Rattle.literal_search.specs.Prepared.{LiesIn};
-ghost use Rattle.literal_search.specs.SearchValue.{longest_of};
-ghost use Rattle.literal_search.specs.Stream.{AnswersSoFar, EndsFailed, EndsWhole, GoesBehind, IsKnownBy, IsKnownSoFar};
-ghost use Rattle.literal_search.specs.Stream.{ScansSoFar, stream_of, told_to};
-ghost use Rattle.literal_search.specs.Inside.Stream.{HasReadOn, IsFirstKnown, IsOpen, IsSoundStream, IsWindow, TellsOf};
-ghost use Rattle.literal_search.specs.Inside.Stream.{held, shifted, stream_value};
+ghost use Rattle.literal_search.specs.SearchValue.{SearchValue, longest_of};
+ghost use Rattle.literal_search.specs.Stream.{AnswersSoFar, EndsFailed, EndsWhole, GivesAhead, GoesBehind, IsKnownBy};
+ghost use Rattle.literal_search.specs.Stream.{IsKnownSoFar, ScansSoFar, stream_of, told_to};
+ghost use Rattle.literal_search.specs.Inside.Stream.{Answers, AnswersAhead, AreHeldFrom, Begins, HasReadOn, IsFirst};
+ghost use Rattle.literal_search.specs.Inside.Stream.{IsFirstKnown, IsOpen, IsSoundStream, TellsOf, held, margin_of};
+ghost use Rattle.literal_search.specs.Inside.Stream.{reach_of, search_of, stream_value};
 
 use crate::Search;
 use crate::reading::Reading;
+use crate::sought::Sought;
 use crate::window::Window;
 use literal_base::count::Tally;
 use literal_base::{Match, Span};
@@ -83,14 +85,10 @@ impl Search {
     ) -> Result<StreamMatches<'_, R>, AllocError>
         ensures { IfOk result (λ m. m ≡ stream_of self.now (R.remaining reader)) }
     {
-        let longest = self.max_pattern_len();
-        let window = Window::new(alloc, longest.saturating_mul(2))?;
+        let stream = Stream::new(alloc, Sought::Any(self), reader)?;
         Ok(StreamMatches {
             search: self,
-            reader,
-            reading: Reading::new(),
-            window,
-            is_over: false,
+            stream,
         })
     }
 }
@@ -122,24 +120,23 @@ pub fn so_far(haystack: &[u8], at: usize, longest: usize, leftmost: Option<Match
 #[derive(Drop)]
 pub struct StreamMatches<'s, R: Read + Drop> {
     search: &'s Search,
-    reader: R,
-    reading: Reading,
-    window: Window,
-    is_over: bool,
+    stream: Stream<R>,
 }
 
 impl<'s, R: Read + Drop> Model for StreamMatches<'s, R> {
     ghost use Rattle.std.specs.Prelude.{◌≡◌, false};
-    ghost use Rattle.literal_search.specs.SearchValue.{longest_of};
     ghost use Rattle.literal_search.specs.Stream.{StreamValue};
-    ghost use Rattle.literal_search.specs.Inside.Stream.{IsSoundStream, stream_value};
+    ghost use Rattle.literal_search.specs.Inside.Stream.{AreHeldFrom, IsSoundStream, reach_of, stream_value};
+    ghost use Rattle.literal_search.specs.declared.sought.Sought.TheVariants.{Any};
 
     ghost Value = { StreamValue };
 
-    ghost view = { λ m. stream_value m.search.now m.window m.reading (R.remaining m.reader) m.is_over };
+    ghost view = { λ m. stream_value m.search.now m.stream.window m.stream.at m.stream.reading
+        (R.remaining m.stream.reader) m.stream.is_over };
 
-    ghost invariant = { λ m. m.is_over ≡ false
-        → IsSoundStream (longest_of m.search.now.query.patterns) m.window m.reading (R.remaining m.reader) };
+    ghost invariant = { λ m. m.stream.is_over ≡ false
+        → IsSoundStream (reach_of (Any m.search)) m.stream.window m.stream.reading (R.remaining m.stream.reader)
+        × AreHeldFrom 0 m.stream.at m.stream.window };
 }
 
 impl<'s, R: Read + Drop> Iterator for StreamMatches<'s, R> {
@@ -154,12 +151,61 @@ impl<'s, R: Read + Drop> Iterator for StreamMatches<'s, R> {
     /// An error comes only after every match that is known from the bytes read. It is the error of the reader, or
     /// [`io::ErrorKind::FileTooLarge`] if a `usize` cannot count more of the text.
     fn next(&mut self) -> Option<io::Result<Match>> {
+        self.stream.next(Sought::Any(self.search))
+    }
+}
+
+/// A text that is read in pieces, and the offset at which a search continues in it.
+#[derive(Drop)]
+pub(crate) struct Stream<R: Read + Drop> {
+    reader: R,
+    reading: Reading,
+    window: Window,
+    at: usize,
+    is_over: bool,
+}
+
+impl<R: Read + Drop> Stream<R> {
+    /// The start of a text, with room for a search.
+    pub(crate) fn new(alloc: Global, sought: Sought<'_>, reader: R) -> Result<Stream<R>, AllocError>
+        ensures sound { IfOk result (λ s. IsSoundStream (reach_of sought.entry) s.window s.reading
+            (R.remaining s.reader)) }
+        ensures held { IfOk result (λ s. AreHeldFrom (margin_of sought.entry) s.at s.window) }
+        ensures first { IfOk result (λ s. (search : SearchValue)
+            → stream_value search s.window s.at s.reading (R.remaining s.reader) s.is_over
+            ≡ stream_of search (R.remaining reader)) }
+    {
+        let window = Window::new(alloc, sought.reach().saturating_mul(2))?;
+        Ok(Stream {
+            reader,
+            reading: Reading::new(),
+            window,
+            at: 0,
+            is_over: false,
+        })
+    }
+
+    /// The answer of an iterator: the leftmost match ahead, or `None`. The error is the reader's.
+    pub(crate) fn next(&mut self, sought: Sought<'_>) -> Option<io::Result<Match>>
+        requires { self.old.is_over ≡ false
+            → IsSoundStream (reach_of sought) self.old.window self.old.reading (R.remaining self.old.reader)
+            × AreHeldFrom (margin_of sought) self.old.at self.old.window }
+        ensures sound { self.new.is_over ≡ false
+            → IsSoundStream (reach_of sought.entry) self.new.window self.new.reading (R.remaining self.new.reader)
+            × AreHeldFrom (margin_of sought.entry) self.new.at self.new.window }
+        ensures gives { GivesAhead (IsFirst sought.entry) (Begins sought.entry) (margin_of sought.entry)
+            (stream_value (search_of sought.entry) self.old.window self.old.at self.old.reading
+            (R.remaining self.old.reader) self.old.is_over) result
+            (stream_value (search_of sought.entry) self.new.window self.new.at self.new.reading
+            (R.remaining self.new.reader) self.new.is_over) }
+    {
         if self.is_over {
             return None;
         }
         let next = next_match(
-            self.search,
+            sought,
             &mut self.window,
+            &mut self.at,
             &mut self.reader,
             &mut self.reading,
         );
@@ -171,28 +217,41 @@ impl<'s, R: Read + Drop> Iterator for StreamMatches<'s, R> {
 /// The leftmost match ahead, by its offsets in the text; the search then continues at its end. If no match is known
 /// from the bytes read and reading failed, the answer is that error.
 fn next_match<R: Read>(
-    search: &Search,
+    sought: Sought<'_>,
     window: &mut Window,
+    at: &mut usize,
     reader: &mut R,
     reading: &mut Reading,
 ) -> io::Result<Option<Match>>
-    requires { IsSoundStream (longest_of search.now.query.patterns) window.old reading.old (R.remaining reader.old) }
-    ensures sound { IfOk result (λ answer. IfSome answer (λ _. IsSoundStream (longest_of search.now.query.patterns)
-        window.new reading.new (R.remaining reader.new))) }
+    requires sound { IsSoundStream (reach_of sought) window.old reading.old (R.remaining reader.old) }
+    requires held { AreHeldFrom (margin_of sought) at.old window.old }
+    ensures sound { IfOk result (λ answer. IfSome answer (λ _. IsSoundStream (reach_of sought.entry)
+        window.new reading.new (R.remaining reader.new) × AreHeldFrom (margin_of sought.entry) at.new window.new)) }
     ensures gives { MatchResult result (λ answer. MatchOption answer
-        (EndsWhole (stream_value search.now window.old reading.old (R.remaining reader.old) false)
-        (stream_value search.now window.new reading.new (R.remaining reader.new) true))
-        (λ found. GoesBehind (stream_value search.now window.old reading.old (R.remaining reader.old) false) found
-        (stream_value search.now window.new reading.new (R.remaining reader.new) false)))
-        (λ error. EndsFailed (stream_value search.now window.old reading.old (R.remaining reader.old) false) error
-        (stream_value search.now window.new reading.new (R.remaining reader.new) true)) }
+        (EndsWhole (IsFirst sought.entry) (Begins sought.entry) (margin_of sought.entry)
+        (stream_value (search_of sought.entry) window.old at.old reading.old (R.remaining reader.old) false)
+        (stream_value (search_of sought.entry) window.new at.new reading.new (R.remaining reader.new) true))
+        (λ found. GoesBehind (IsFirst sought.entry) (Begins sought.entry) (margin_of sought.entry)
+        (stream_value (search_of sought.entry) window.old at.old reading.old (R.remaining reader.old) false) found
+        (stream_value (search_of sought.entry) window.new at.new reading.new (R.remaining reader.new) false)))
+        (λ error. EndsFailed (IsFirst sought.entry) (Begins sought.entry) (margin_of sought.entry)
+        (stream_value (search_of sought.entry) window.old at.old reading.old (R.remaining reader.old) false) error
+        (stream_value (search_of sought.entry) window.new at.new reading.new (R.remaining reader.new) true)) }
 {
     loop {
-        match next_known(search, window, reader, reading) {
-            SoFar::Found(found) => return Ok(Some(take(window, found))),
-            SoFar::NoneBefore(offset) if reading.is_open() => window.pass(offset),
+        match next_known(sought, window, *at, reader, reading) {
+            SoFar::Found(found) => {
+                *at = found.end();
+                window.hold_from(*at, sought.margin());
+                return Ok(Some(found));
+            }
+            SoFar::NoneBefore(offset) if reading.is_open() => {
+                *at = offset;
+                window.hold_from(*at, sought.margin());
+            }
             SoFar::NoneBefore(_) => {
                 window.pass(window.held().len());
+                *at = window.offset;
                 return match reading.take_error() {
                     Some(error) => Err(error),
                     None => Ok(None),
@@ -202,57 +261,60 @@ fn next_match<R: Read>(
     }
 }
 
-/// Reads until enough of the text is held for a search, or all that can be read. Returns what is known of the leftmost
-/// match.
+/// Reads until enough of the text is held for a search from an offset on, or all that can be read. Returns what is
+/// known of the leftmost match, by its offsets in the text.
 pub(crate) fn next_known<R: Read>(
-    search: &Search,
+    sought: Sought<'_>,
     window: &mut Window,
+    at: usize,
     reader: &mut R,
     reading: &mut Reading,
 ) -> SoFar
-    requires { IsSoundStream (longest_of search.now.query.patterns) window.old reading.old (R.remaining reader.old) }
-    ensures sound { IsSoundStream (longest_of search.now.query.patterns) window.new reading.new
-        (R.remaining reader.new) }
+    requires sound { IsSoundStream (reach_of sought) window.old reading.old (R.remaining reader.old) }
+    requires held { AreHeldFrom (margin_of sought) at window.old }
+    ensures sound { IsSoundStream (reach_of sought.entry) window.new reading.new (R.remaining reader.new) }
+    ensures held { AreHeldFrom (margin_of sought.entry) at window.new }
     ensures offset { window.new.offset ≡ window.old.offset }
     ensures read { (piece : List ℕ) × Consumes (R.remaining reader.old) (R.remaining reader.new) piece
         × (held window.new ≡ held window.old ++ piece) × HasReadOn reading.old piece reading.new }
     ensures answers { (more : List ℕ) → (reading.new.is_whole ≡ true → more ≡ [])
-        → AnswersSoFar search.now.query search.now.ignore_case (held window.new ++ more) 0 result }
-    ensures known { IsFirstKnown search.now.query.patterns reading.new.is_whole (length (held window.new)) result }
-    ensures further { IsOpen reading.new → 0 < told_to result }
-    ensures not_empty { NoneIsEmpty search.now.query.patterns }
+        → AnswersAhead sought.entry at (held window.new ++ more) result }
+    ensures known { IsFirstKnown (reach_of sought.entry) reading.new.is_whole at
+        (window.new.offset + length (held window.new)) result }
+    ensures further { IsOpen reading.new → at < told_to result }
+    ensures not_empty { NoneIsEmpty (search_of sought.entry).query.patterns }
 {
-    let _ = search.patterns_len(); // (its contract says that no pattern is empty)
-    window.fill(reader, reading, (2 * search.max_pattern_len()).max(1));
-    first_known(search, window.held(), reading.is_whole())
+    let reach = sought.reach();
+    window.fill(reader, reading, (2 * reach).max(1));
+    let base = window.offset;
+    match first_known(sought, window.held(), at - base, reach, reading.is_whole()) {
+        SoFar::Found(found) => SoFar::Found(found.offset(base)),
+        SoFar::NoneBefore(offset) => SoFar::NoneBefore(offset + base),
+    }
 }
 
-/// What is known of the leftmost match in the held bytes, which are the rest of the text or a part of it.
-fn first_known(search: &Search, haystack: &[u8], is_whole: bool) -> SoFar
+/// What is known of the leftmost match from an offset on in the held bytes, which are the rest of the text or a part of
+/// it.
+fn first_known(
+    sought: Sought<'_>,
+    haystack: &[u8],
+    from: usize,
+    reach: usize,
+    is_whole: bool,
+) -> SoFar
+    requires within { from ≤ length haystack.now }
+    requires reach { reach ≡ reach_of sought }
     ensures answers { (more : List ℕ) → (is_whole ≡ true → more ≡ [])
-        → AnswersSoFar search.now.query search.now.ignore_case (haystack.now ++ more) 0 result }
-    ensures known { IsFirstKnown search.now.query.patterns is_whole (length haystack.now) result }
+        → Answers sought.entry (haystack.now ++ more) from result }
+    ensures known { IsFirstKnown (reach_of sought.entry) is_whole from (length haystack.now) result }
 {
+    let end = haystack.len();
+    let found = sought.find_in(haystack, Span { start: from, end });
     if !is_whole {
-        return search.find_so_far(haystack, 0);
+        return so_far(haystack, from, reach, found);
     }
-    match search.find(haystack) {
+    match found {
         Some(found) => SoFar::Found(found),
-        None => SoFar::NoneBefore(haystack.len()),
+        None => SoFar::NoneBefore(end),
     }
-}
-
-/// Drops the held bytes up to the match's end, and returns the match by its offsets in the text.
-fn take(window: &mut Window, found: Match) -> Match
-    requires window { IsWindow window.old }
-    requires inside { found.end ≤ length (held window.old) }
-    ensures window { IsWindow window.new }
-    ensures room { length window.new.bytes.items ≡ length window.old.bytes.items }
-    ensures held { held window.new ≡ drop found.end (held window.old) }
-    ensures offset { window.new.offset ≡ window.old.offset + found.end }
-    ensures found { result ≡ shifted window.old.offset found }
-{
-    let moved = found.offset(window.offset);
-    window.pass(found.end());
-    moved
 }

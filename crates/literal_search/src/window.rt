@@ -1,7 +1,7 @@
 //! The known part of a text that is read in pieces.
-ghost use Rattle.std.specs.Prelude.{◌≡◌, ◌+◌, ◌<◌, ◌≤◌, ◌++◌, [], ℕ, List, None, drop, length, IfOk};
+ghost use Rattle.std.specs.Prelude.{◌≡◌, ◌+◌, ◌-◌, ◌<◌, ◌≤◌, ◌++◌, [], ℕ, List, None, drop, length, slice_range, IfOk};
 ghost use Rattle.std.specs.Io.KnownBytes.{Consumes};
-ghost use Rattle.literal_search.specs.Inside.Stream.{HasReadOn, IsOpen, IsSoundReading, IsWindow, held};
+ghost use Rattle.literal_search.specs.Inside.Stream.{AreHeldFrom, HasReadOn, IsOpen, IsSoundReading, IsWindow, held};
 
 use crate::reading::Reading;
 use std::alloc::{AllocError, Global};
@@ -45,6 +45,16 @@ impl Window {
         &self.bytes[self.start..self.end]
     }
 
+    /// The held bytes between two offsets of the text.
+    pub(crate) fn between(&self, from: usize, to: usize) -> &[u8]
+        requires window { IsWindow self.now }
+        requires ordered { (self.now.offset ≤ from) × (from ≤ to) }
+        requires within { to ≤ self.now.offset + length (held self.now) }
+        ensures { result.now ≡ slice_range (held self.now) (from - self.now.offset) (to - self.now.offset) }
+    {
+        &self.held()[from - self.offset..to - self.offset]
+    }
+
     /// Drops the first held bytes.
     #[tactic(auto, using(crate::proofs::lemmas::Streams::part_behind, crate::proofs::lemmas::Prepared::length_part))]
     pub(crate) fn pass(&mut self, count: usize)
@@ -57,6 +67,19 @@ impl Window {
     {
         self.start += count;
         self.offset += count;
+    }
+
+    /// Drops the held bytes that lie more than `margin` bytes before an offset of the text.
+    pub(crate) fn hold_from(&mut self, at: usize, margin: usize)
+        requires window { IsWindow self.old }
+        requires after { self.old.offset ≤ at - margin }
+        requires within { at ≤ self.old.offset + length (held self.old) }
+        ensures window { IsWindow self.new }
+        ensures room { length self.new.bytes.items ≡ length self.old.bytes.items }
+        ensures held { held self.new ≡ drop ((at - margin) - self.old.offset) (held self.old) }
+        ensures from { AreHeldFrom margin at self.new }
+    {
+        self.pass(at.saturating_sub(margin) - self.offset);
     }
 
     /// Reads more of the text, unless it ends or reading fails. The window has to have room.

@@ -1,7 +1,8 @@
 //! Calls of `WholeWords`.
 use crate::made::{assert_place, words_with_a_table};
-use literal_search::{BuildError, Match, MatchKind, Span, WholeWords};
+use literal_search::{BuildError, Match, MatchKind, ReplaceStreamError, Span, WholeWords};
 use std::alloc::{AllocError, Global};
+use std::io::Write;
 use std::process::Abort;
 
 /// A search for 24 patterns as whole words.
@@ -87,6 +88,72 @@ fn replace_all_of_whole_words(rt: HostRuntime) -> Result<(), AllocError> {
             }
         };
         assert!(rt; text.starts_with(b"axes <what is put in place of a word>"));
+    }
+    Ok(())
+}
+
+/// The number of whole words in the text of a reader.
+fn count_read(rt: &impl Abort, alloc: Global, search: &WholeWords) -> Result<usize, AllocError> {
+    let mut count: usize = 0;
+    for found in search.find_stream(alloc, b"axes axe ax".as_slice())? {
+        assert!(rt; found.is_ok());
+        count = count.saturating_add(1);
+    }
+    Ok(count)
+}
+
+#[test]
+fn find_stream_of_whole_words(rt: HostRuntime) -> Result<(), AllocError> {
+    let search = build(rt.alloc()).or(Err(AllocError))?;
+    let count = match count_read(&rt, rt.alloc(), &search) {
+        Ok(count) => count,
+        Err(_) => {
+            assert_finds(&rt, &search);
+            count_read(&rt, rt.alloc(), &search).expect(&rt, "it was refused again")
+        }
+    };
+    assert!(rt; count == 2);
+    Ok(())
+}
+
+/// The text that is written by the call of this number, if memory is granted; otherwise nothing is read.
+fn rewrite(
+    rt: &impl Abort,
+    alloc: Global,
+    search: &WholeWords,
+    call: usize,
+) -> Result<bool, ReplaceStreamError> {
+    let (mut text, mut room) = (b"axes axe".as_slice(), [0; 8]);
+    let mut written = room.as_mut_slice();
+    let done = if call == 0 {
+        let marks = [b"-".as_slice(); 24];
+        search.replace_stream(alloc, &mut text, &mut written, &marks)
+    } else {
+        search.replace_stream_with(alloc, &mut text, &mut written, |_, _, writer| {
+            writer.write_all(b"-")
+        })
+    };
+    assert!(rt; text.is_empty() == done.is_ok());
+    done?;
+    Ok(room.starts_with(b"axes -"))
+}
+
+#[test]
+fn replace_stream_of_whole_words(rt: HostRuntime) -> Result<(), AllocError> {
+    let search = build(rt.alloc()).or(Err(AllocError))?;
+    for call in 0..2 {
+        let is_right = match rewrite(&rt, rt.alloc(), &search, call) {
+            Ok(is_right) => is_right,
+            Err(error) => {
+                assert!(rt; matches!(error, ReplaceStreamError::OutOfMemory));
+                assert_finds(&rt, &search);
+                let again = rewrite(&rt, rt.alloc(), &search, call);
+                again
+                    .or(Err(AllocError))
+                    .expect(&rt, "it was refused again")
+            }
+        };
+        assert!(rt; is_right);
     }
     Ok(())
 }

@@ -1,6 +1,6 @@
 //! Calls for whole words in a `WordText`.
 use crate::made::{assert_place, words_with_a_table};
-use literal_search::{BuildError, MatchKind, WholeWords, WordText};
+use literal_search::{BuildError, MatchKind, ReplaceError, WholeWords, WordText};
 use std::alloc::{AllocError, Global};
 use std::process::Abort;
 
@@ -50,5 +50,31 @@ fn find_text_all_of_a_word_text(rt: HostRuntime) -> Result<(), AllocError> {
     };
     assert_place(&rt, all.first().copied(), 1, (6, 9));
     assert!(rt; all.len() == 1);
+    Ok(())
+}
+
+/// The second occurrence replaced by more bytes than the text has.
+fn replaced(
+    alloc: Global,
+    search: &WholeWords,
+    text: &WordText<'_>,
+) -> Result<Vec<u8>, ReplaceError> {
+    let marks = [b"<what is put in place of a word>".as_slice(); 24];
+    search.replace_text_all(alloc, text, &marks)
+}
+
+#[test]
+fn replace_text_all_of_a_word_text(rt: HostRuntime) -> Result<(), AllocError> {
+    let search = build(rt.alloc()).or(Err(AllocError))?;
+    let text = WordText::new(rt.alloc(), TEXT)?;
+    let bytes = match replaced(rt.alloc(), &search, &text) {
+        Ok(bytes) => bytes,
+        Err(error) => {
+            assert!(rt; error == ReplaceError::OutOfMemory);
+            assert_finds(&rt, &search, &text);
+            replaced(rt.alloc(), &search, &text).expect(&rt, "it was refused again")
+        }
+    };
+    assert!(rt; bytes.as_slice() == "éaxe <what is put in place of a word>".as_bytes());
     Ok(())
 }

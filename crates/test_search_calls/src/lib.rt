@@ -32,4 +32,6 @@ mod streams;
 #[cfg(test)]
 mod whole_words;
 #[cfg(test)]
+mod word_streams;
+#[cfg(test)]
 mod word_text;

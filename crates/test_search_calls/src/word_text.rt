@@ -1,7 +1,8 @@
 //! Whole words in texts with characters beyond ASCII, and by the sides of a haystack.
 use crate::made::longest_of;
 use literal_search::{
-    Damaged, Match, MatchKind, Prepared, PreparedWords, Span, Tally, WholeWords, WordText,
+    Damaged, Match, MatchKind, Prepared, PreparedWords, ReplaceError, Span, Tally, WholeWords,
+    WordText,
 };
 use std::alloc::Global;
 use std::test::Fail;
@@ -14,6 +15,19 @@ fn example_of_a_word_text(rt: HostRuntime) -> Result<(), Fail> {
     let text = WordText::new(alloc, "élan, lan")?;
     let found = search.find_text(&text).ok_or("nothing is found")?;
     assert!(rt; found.range() == (7..10));
+    Ok(())
+}
+
+#[test]
+fn example_of_replacing_in_a_word_text(rt: HostRuntime) -> Result<(), Fail> {
+    let alloc = rt.alloc();
+    let (set, words) = (WholeWords::ascii_word_bytes(), [b"lan".as_slice()]);
+    let search = WholeWords::new(alloc, MatchKind::LeftmostFirst, false, set, words)?;
+    let text = WordText::new(alloc, "élan, lan")?;
+    let replaced = search.replace_text_all(alloc, &text, &[b"net"])?;
+    assert!(rt; replaced.as_slice() == "élan, net".as_bytes());
+    let too_many = search.replace_text_all(alloc, &text, &[b"net", b"net"]);
+    assert!(rt; matches!(too_many, Err(ReplaceError::NotOneForEach)));
     Ok(())
 }
 

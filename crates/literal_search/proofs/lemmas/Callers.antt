@@ -411,7 +411,7 @@ pub replaced_by_calls : {F : Type 0}
 replaced_by_calls written replacements one_for_each holds held writes = record {
   one_for_each = one_for_each;
   matches = written.matches;
-  are_greedy = written.are_greedy;
+  are_matches = written.are_greedy;
   is_replaced = written_by_calls written (λ found. pattern_at replacements found.pattern) holds held
       (λ f found bytes before behind next held is _ called.
       writes f found bytes before behind next held is.occurs.is_pattern called);

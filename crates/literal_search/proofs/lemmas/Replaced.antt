@@ -68,7 +68,7 @@ module _ {search : SearchValue} {haystack : List ℕ} {replacements : List (Bor 
           record {
             one_for_each = (replaced_by [] step.leftmost).one_for_each;
             matches = done;
-            are_greedy = subst (λ (m : MatchesValue). IsGreedyIn m.search.query m.search.ignore_case m.haystack
+            are_matches = subst (λ (m : MatchesValue). IsGreedyIn m.search.query m.search.ignore_case m.haystack
                 (between m.at m.span.end) done) start
                 (subst (IsGreedyIn first.search.query first.search.ignore_case first.haystack
                 (between first.at first.span.end)) (append-nil done)

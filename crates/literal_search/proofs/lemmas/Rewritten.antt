@@ -1,11 +1,9 @@
 -- A text that is read piece by piece, and written with its matches rewritten.
-use Rattle.std.proofs.lemmas.Grind.{common_steps}
-use Rattle.std.proofs.Common.{◌≡◌, ℕ, ◌+◌, ◌-◌, ◌<◌, ◌≤◌, ◌++◌, [], ◌∷◌, ◌∙◌, Bool, List, None, Ok, Option, Result, ap}
-use Rattle.std.proofs.Common.{true}
-use Rattle.std.proofs.Common.{append-nil, append_assoc, arith, drop, inl, inr, length, length-append, refl, subst, sym}
+use Rattle.std.proofs.Common.{◌≡◌, ℕ, ◌+◌, ◌-◌, ◌<◌, ◌≤◌, ◌++◌, [], ◌∷◌, ◌∙◌, Bool, List, Ok, Option, Result, ap}
+use Rattle.std.proofs.Common.{Some, true}
+use Rattle.std.proofs.Common.{append-nil, append_assoc, arith, drop, length, length-append, refl, subst, sym}
 use Rattle.std.proofs.Common.{slice_range, take}
 use Rattle.std.proofs.KnownBytes.{Appends-nil, Appends-trans, Consumes-nil, Consumes-trans}
-use Rattle.std.proofs.lemmas.Bool.{cases_lt}
 use Rattle.std.proofs.lemmas.Fn.{FoldsTo-push}
 use Rattle.std.proofs.lemmas.List.{drop-append-le, drop-drop, length-drop, length-take-le, take-append-drop}
 use Rattle.std.proofs.lemmas.List.{take-append-le}
@@ -14,18 +12,15 @@ use Rattle.std.specs.Borrow.{Bor, MutBor}
 use Rattle.std.specs.Io.KnownBytes.{Appends, Consumes, IsAtEnd}
 use Rattle.std.specs.List.{FoldsTo}
 use Rattle.std.specs.declared.io.Error.{Error}
-use Rattle.literal_base.specs.Greedy.{IsGreedy}
-use Rattle.literal_base.specs.Leftmost.{IsLeftmostMatch}
 use Rattle.literal_base.specs.MatchValue.{MatchValue}
-use Rattle.literal_base.specs.Occurs.{NoneIsEmpty, NothingOccurs, Occurs, rest_from}
-use Rattle.literal_base.specs.Query.{Query}
-use Rattle.literal_search.specs.ReplacedStream.{AreRewritten, RewritesAllBy, RewritesMatch, RewritingValue}
-use Rattle.literal_search.specs.SearchValue.{SearchValue}
-use Rattle.literal_search.specs.Stream.{AnswersSoFar}
+use Rattle.literal_base.specs.Occurs.{NoneIsEmpty}
+use Rattle.literal_search.specs.ReplacedStream.{AreRewritten, RewritesAllOf, RewritesMatch}
+use Rattle.literal_search.specs.ReplacedStream.{RewritingValue}
 use Rattle.literal_search.specs.Inside.Rewriting.{HasRewritten}
-use Rattle.literal_search.specs.Inside.Stream.{shifted}
+use Rattle.literal_search.specs.Inside.Stream.{AnswersAhead, AreMatches, IsFirst, margin_of, reach_of, search_of}
+use Rattle.literal_search.specs.declared.sought.Sought.{Sought}
 use Rattle.literal_search.specs.declared.stream.SoFar.TheVariants.{Found, NoneBefore}
-use Rattle.literal_search.proofs.lemmas.Streams.{leftmost_behind, leftmost_from, none_ahead}
+use Rattle.literal_search.proofs.lemmas.Sought.{goes_after, goes_none, goes_some, matches_later, nothing_last}
 use Rattle.literal_search.proofs.lemmas.Walk.{slice_halves}
 
 -- a part of a text is the same part of a longer one
@@ -36,13 +31,7 @@ part_longer text piece from to inside ordered =
     ap (take (to - from)) (drop-append-le from text piece (omega arith))
     ∙ take-append-le (to - from) (drop from text) piece (omega arith)
 
--- the first bytes of what is ahead are a part of the text
-part_ahead : (text : List ℕ) (at n : ℕ) → take n (drop at text) ≡ slice_range text at (at + n)
-part_ahead text at n =
-    let same : (at + n) - at ≡ n = omega arith in
-    ap (λ k. take k (drop at text)) (sym same)
-
--- so is a part of it
+-- a part of what is ahead is a part of the text
 part_within : (text : List ℕ) (at from to : ℕ) → from ≤ to
     → slice_range (drop at text) from to ≡ slice_range text (from + at) (to + at)
 part_within text at from to ordered =
@@ -50,14 +39,6 @@ part_within text at from to ordered =
     let later : at + from ≡ from + at = omega arith in
     ap (take (to - from)) (drop-drop from at text)
     ∙ (ap (λ k. take (to - from) (drop k text)) later ∙ ap (λ k. take k (drop (from + at) text)) (sym same))
-
--- where nothing begins before a later offset, the matches from there on are those from an earlier one on
-greedy_later : (query : Query) (ignore_case : Bool) (text : List ℕ) (from to : ℕ) (matches : List MatchValue)
-    → from ≤ to → ((i p : ℕ) → Occurs query.patterns ignore_case text (rest_from text from) i p → to ≤ p)
-    → IsGreedy query ignore_case text to matches → IsGreedy query ignore_case text from matches
-greedy_later query ignore_case text from to [] later none nothing =
-    leftmost_from query ignore_case text from to None later none nothing
-greedy_later query ignore_case text from to (found ∷ more) later none greedy = (grind arith, greedy.1)
 
 module _ {F W : Type 0} (contents : W → Option (List ℕ))
     (step : F → MatchValue → Bor (List ℕ) → MutBor W → Result ⊤ Error → MutBor W → F → Type 0)
@@ -92,32 +73,37 @@ module _ {F W : Type 0} (contents : W → Option (List ℕ))
           calls_longer text piece run.0 more last run.2,
         )
 
-    module _ (search : SearchValue) (unread : Option (List ℕ)) (replace : F) (held : Option (List ℕ)) where
+    module _ (sought : Sought) (unread : Option (List ℕ)) (replace : F) (held : Option (List ℕ)) where
+      abbrev margin : ℕ
+      margin = margin_of sought
+
       -- at first nothing is read or written
       pub none_rewritten : (is_whole : Bool) (at : ℕ) (ahead : List ℕ) → at ≡ 0 → ahead ≡ []
-          → HasRewritten contents step search is_whole at ahead unread unread replace held replace held
-      none_rewritten is_whole at ahead first empty = record {
-        text = [];
-        matches = [];
-        reads = Consumes-nil unread;
-        ahead_is = empty ∙ sym (ap (λ n. drop n []) first);
-        are_rewritten = record {
-          last = record { replace = replace; written = held; at = 0 };
-          calls = refl;
-          upto = omega arith;
-          inside = omega (arith, first);
-          rest = subst (λ (n : ℕ). Appends held held (slice_range [] 0 n)) (sym first) (Appends-nil held);
-        };
-        replace_is = refl;
-        come_first = λ more behind over greedy.
-            subst (λ (n : ℕ). IsGreedy search.query search.ignore_case ([] ++ more) n behind) first greedy;
-      }
+          → HasRewritten contents step sought is_whole at ahead unread unread replace held replace held
+      none_rewritten is_whole at ahead first empty =
+          let begin : at - margin ≡ 0 = omega (arith, first) in
+          record {
+            text = [];
+            matches = [];
+            reads = Consumes-nil unread;
+            ahead_is = empty ∙ sym (ap (λ n. drop n []) begin);
+            are_rewritten = record {
+              last = record { replace = replace; written = held; at = 0 };
+              calls = refl;
+              upto = omega arith;
+              inside = omega (arith, first);
+              rest = subst (λ (n : ℕ). Appends held held (slice_range [] 0 n)) (sym first) (Appends-nil held);
+            };
+            replace_is = refl;
+            come_first = λ more behind over list.
+                subst (λ (n : ℕ). AreMatches sought ([] ++ more) n behind) first list;
+          }
 
       -- a piece is read
       pub read_further : (was is : Bool) (at : ℕ) (ahead piece : List ℕ) (left last : Option (List ℕ)) (now : F)
           (written : Option (List ℕ)) → (was ≡ true → (is ≡ true) × (piece ≡ [])) → Consumes left last piece
-          → HasRewritten contents step search was at ahead unread left replace held now written
-          → HasRewritten contents step search is at (ahead ++ piece) unread last replace held now written
+          → HasRewritten contents step sought was at ahead unread left replace held now written
+          → HasRewritten contents step sought is at (ahead ++ piece) unread last replace held now written
       read_further was is at ahead piece left last now written over consumed old =
           let done = old.are_rewritten in
           let long = length-append old.text piece in
@@ -125,7 +111,8 @@ module _ {F W : Type 0} (contents : W → Option (List ℕ))
             text = old.text ++ piece;
             matches = old.matches;
             reads = Consumes-trans unread left last old.text piece old.reads consumed;
-            ahead_is = ap (λ l. l ++ piece) old.ahead_is ∙ sym (drop-append-le at old.text piece done.inside);
+            ahead_is = ap (λ l. l ++ piece) old.ahead_is
+                ∙ sym (drop-append-le (at - margin) old.text piece (omega (arith, done.inside)));
             are_rewritten = record {
               last = done.last;
               calls = calls_longer old.text piece _ old.matches done.last done.calls;
@@ -136,227 +123,222 @@ module _ {F W : Type 0} (contents : W → Option (List ℕ))
             };
             replace_is = old.replace_is;
             come_first = λ more behind ended.
-                subst (λ (t : List ℕ). IsGreedy search.query search.ignore_case t at behind
-                → IsGreedy search.query search.ignore_case t 0 (old.matches ++ behind))
+                subst (λ (t : List ℕ). AreMatches sought t at behind → AreMatches sought t 0 (old.matches ++ behind))
                 (sym (append_assoc old.text piece more))
                 (old.come_first (piece ++ more) behind (λ yes. grind arith));
           }
 
       module _ (is_whole : Bool) (at : ℕ) (ahead : List ℕ) (left : Option (List ℕ)) (now : F)
           (written : Option (List ℕ))
-          (old : HasRewritten contents step search is_whole at ahead unread left replace held now written)
+          (old : HasRewritten contents step sought is_whole at ahead unread left replace held now written)
         where
           abbrev text : List ℕ
           text = old.text
 
+          -- the offset at which the bytes ahead begin
+          abbrev base : ℕ
+          base = at - margin
+
           abbrev before : List ℕ
-          before = take at text
+          before = take base text
 
           -- the text, cut where the bytes ahead begin
           here : (more : List ℕ) → before ++ (ahead ++ more) ≡ text ++ more
           here more =
               ap (λ l. before ++ (l ++ more)) old.ahead_is
-              ∙ (sym (append_assoc before (drop at text) more) ∙ ap (λ l. l ++ more) (take-append-drop at text))
+              ∙ (sym (append_assoc before (drop base text) more)
+              ∙ ap (λ l. l ++ more) (take-append-drop base text))
 
-          here_len : length before ≡ at
-          here_len = length-take-le at text old.are_rewritten.inside
+          here_len : length before ≡ at - margin
+          here_len = length-take-le base text (omega (arith, old.are_rewritten.inside))
 
-          ahead_len : at + length ahead ≡ length text
+          ahead_len : base + length ahead ≡ length text
           ahead_len =
-              let long = ap length old.ahead_is ∙ length-drop at text in
+              let long = ap length old.ahead_is ∙ length-drop base text in
               omega (arith, long, old.are_rewritten.inside)
 
+          -- a part of the bytes ahead is a part of the text
+          part_is : (from to : ℕ) → base ≤ from → from ≤ to
+              → slice_range ahead (from - base) (to - base) ≡ slice_range text from to
+          part_is from to after ordered =
+              let from_is : (from - base) + base ≡ from = omega (arith, after) in
+              let to_is : (to - base) + base ≡ to = omega (arith, after, ordered) in
+              ap (λ l. slice_range l (from - base) (to - base)) old.ahead_is
+              ∙ (part_within text base (from - base) (to - base) (omega (arith, ordered))
+              ∙ (ap (λ n. slice_range text n ((to - base) + base)) from_is ∙ ap (slice_range text from) to_is))
+
+          -- the bytes up to a later offset follow those that are written
+          up_to : (to : ℕ) (out : Option (List ℕ)) → at ≤ to
+              → Appends written out (slice_range ahead (at - base) (to - base))
+              → Appends old.are_rewritten.last.written out (slice_range text old.are_rewritten.last.at to)
+          up_to to out later writes =
+              let done = old.are_rewritten in
+              subst (Appends done.last.written out) (sym (slice_halves text done.last.at at to done.upto later))
+              (Appends-trans done.last.written written out _ _ done.rest
+              (subst (Appends written out) (part_is at to (omega arith) later) writes))
+
+          -- the bytes ahead of a later offset
+          ahead_later : (to : ℕ) → at ≤ to
+              → drop ((to - margin) - base) ahead ≡ drop (to - margin) text
+          ahead_later to later =
+              let sum : base + ((to - margin) - base) ≡ to - margin = omega (arith, later) in
+              ap (drop ((to - margin) - base)) old.ahead_is
+              ∙ (drop-drop ((to - margin) - base) base text ∙ ap (λ n. drop n text) sum)
+
           -- bytes in which no match begins are written
-          pub passed_by : (offset : ℕ) (out : Option (List ℕ)) → offset ≤ length ahead
+          pub passed_by : (to : ℕ) (out : Option (List ℕ)) → at ≤ to → to ≤ base + length ahead
               → ((more : List ℕ) → (is_whole ≡ true → more ≡ [])
-              → AnswersSoFar search.query search.ignore_case (ahead ++ more) 0 (NoneBefore offset))
-              → Appends written out (take offset ahead)
-              → HasRewritten contents step search is_whole (at + offset) (drop offset ahead) unread left replace
-              held now
-              out
-          passed_by offset out within none writes =
+              → AnswersAhead sought at (ahead ++ more) (NoneBefore to))
+              → Appends written out (slice_range ahead (at - base) (to - base))
+              → HasRewritten contents step sought is_whole to (drop ((to - margin) - base) ahead) unread left replace
+              held now out
+          passed_by to out later within none writes =
               let done = old.are_rewritten in
               record {
                 text = text;
                 matches = old.matches;
                 reads = old.reads;
-                ahead_is = ap (drop offset) old.ahead_is ∙ drop-drop offset at text;
+                ahead_is = ahead_later to later;
                 are_rewritten = record {
                   last = done.last;
                   calls = done.calls;
-                  upto = omega (arith, done.upto);
+                  upto = omega (arith, done.upto, later);
                   inside = omega (arith, within, ahead_len);
-                  rest = subst (Appends done.last.written out)
-                      (sym (slice_halves text done.last.at at (at + offset) done.upto (omega arith)))
-                      (Appends-trans done.last.written written out _ _ done.rest
-                      (subst (Appends written out) (ap (take offset) old.ahead_is ∙ part_ahead text at offset) writes));
+                  rest = up_to to out later writes;
                 };
                 replace_is = old.replace_is;
-                come_first = λ more behind over greedy.
+                come_first = λ more behind over list.
                     old.come_first more behind over
-                    (subst (λ (t : List ℕ). IsGreedy search.query search.ignore_case t at behind) (here more)
-                    (greedy_later search.query search.ignore_case (before ++ (ahead ++ more)) at (at + offset) behind
-                    (omega arith)
-                    (subst (λ (n : ℕ). (i p : ℕ) → Occurs search.query.patterns search.ignore_case
-                    (before ++ (ahead ++ more)) (rest_from (before ++ (ahead ++ more)) n) i p → n + offset ≤ p) here_len
-                    (none_ahead search.query.patterns search.ignore_case before (ahead ++ more) offset (none more
-                    over)))
-                    (subst (λ (t : List ℕ). IsGreedy search.query search.ignore_case t (at + offset) behind)
-                    (sym (here more)) greedy)));
+                    (subst (λ (t : List ℕ). AreMatches sought t at behind) (here more)
+                    (matches_later sought (before ++ (ahead ++ more)) at to behind later
+                    (none more over before here_len)
+                    (subst (λ (t : List ℕ). AreMatches sought t to behind) (sym (here more)) list)));
               }
 
           -- the bytes up to a match are written, and a call is made for it
           pub match_by : (found : MatchValue) (bytes : Bor (List ℕ)) (mid end : MutBor W) (next : F)
-              → found.start < found.end → found.end ≤ length ahead
+              → at ≤ found.start → found.start < found.end → found.end ≤ base + length ahead
               → ((more : List ℕ) → (is_whole ≡ true → more ≡ [])
-              → AnswersSoFar search.query search.ignore_case (ahead ++ more) 0 (Found found))
-              → Appends written (contents mid.now) (take found.start ahead)
-              → bytes.now ≡ slice_range ahead found.start found.end
-              → step now (shifted at found) bytes mid (Ok tt) end next
-              → HasRewritten contents step search is_whole (at + found.end) (drop found.end ahead) unread left replace
-              held
-              next (contents end.now)
-          match_by found bytes mid end next some within first writes matched called =
+              → AnswersAhead sought at (ahead ++ more) (Found found))
+              → Appends written (contents mid.now) (slice_range ahead (at - base) (found.start - base))
+              → bytes.now ≡ slice_range ahead (found.start - base) (found.end - base)
+              → step now found bytes mid (Ok tt) end next
+              → HasRewritten contents step sought is_whole found.end (drop ((found.end - margin) - base) ahead) unread
+              left replace held next (contents end.now)
+          match_by found bytes mid end next after some within first writes matched called =
               let done = old.are_rewritten in
               let to : RewritingValue F =
-              record { replace = next; written = contents end.now; at = found.end + at } in
-              let end_is : found.end + at ≡ at + found.end = omega arith in
+              record { replace = next; written = contents end.now; at = found.end } in
               record {
                 text = text;
-                matches = old.matches ++ shifted at found ∷ [];
+                matches = old.matches ++ found ∷ [];
                 reads = old.reads;
-                ahead_is = ap (drop found.end) old.ahead_is ∙ drop-drop found.end at text;
+                ahead_is = ahead_later found.end (omega (arith, after, some));
                 are_rewritten = record {
                   last = to;
-                  calls = FoldsTo-push (RewritesMatch contents step text) _ old.matches done.last (shifted at found) to
+                  calls = FoldsTo-push (RewritesMatch contents step text) _ old.matches done.last found to
                       done.calls (record {
                         bytes = bytes;
                         before = mid;
                         behind = end;
-                        after = omega (arith, done.upto);
-                        some = omega (arith, some);
+                        after = omega (arith, done.upto, after);
+                        some = some;
                         inside = omega (arith, within, ahead_len);
                         are_matched = matched
-                            ∙ (ap (λ l. slice_range l found.start found.end) old.ahead_is
-                            ∙ part_within text at found.start found.end (omega arith));
-                        between = between;
-                        calls = subst (λ f. step f (shifted at found) bytes mid (Ok tt) end next) (sym old.replace_is)
-                            called;
+                            ∙ part_is found.start found.end (omega (arith, after)) (omega (arith, some));
+                        between = up_to found.start (contents mid.now) after writes;
+                        calls = subst (λ f. step f found bytes mid (Ok tt) end next) (sym old.replace_is) called;
                         leaves = refl;
                         goes_on = refl;
                       });
                   upto = omega arith;
                   inside = omega (arith, within, ahead_len);
-                  rest = subst (λ (n : ℕ). Appends (contents end.now) (contents end.now)
-                      (slice_range text (found.end + at) n)) end_is (none_between (found.end + at));
+                  rest = none_between found.end;
                 };
                 replace_is = refl;
-                come_first = λ more behind over greedy.
-                    subst (IsGreedy search.query search.ignore_case (text ++ more) 0)
-                    (sym (append_assoc old.matches (shifted at found ∷ []) behind))
-                    (old.come_first more (shifted at found ∷ behind) over (
-                      subst (λ (t : List ℕ). IsLeftmostMatch search.query search.ignore_case t (rest_from t at)
-                          (shifted at found)) (here more)
-                          (subst (λ (n : ℕ). IsLeftmostMatch search.query search.ignore_case (before ++ (ahead ++ more))
-                          (rest_from (before ++ (ahead ++ more)) n) (shifted n found)) here_len
-                          (leftmost_behind search.query search.ignore_case before (ahead ++ more) found (first
-                          more over))),
-                      subst (λ (n : ℕ). IsGreedy search.query search.ignore_case (text ++ more) n behind) (sym end_is)
-                          greedy,
-                    ));
+                come_first = λ more behind over list.
+                    subst (AreMatches sought (text ++ more) 0)
+                    (sym (append_assoc old.matches (found ∷ []) behind))
+                    (old.come_first more (found ∷ behind) over
+                    (goes_some sought (text ++ more) at found behind
+                    (subst (λ (t : List ℕ). IsFirst sought t at (Some found)) (here more)
+                    (first more over before here_len)) list));
               }
             where
-              start_is : at + found.start ≡ found.start + at
-              start_is = omega arith
-
               none_between : (n : ℕ) → Appends (contents end.now) (contents end.now) (slice_range text n n)
               none_between n =
                   let none : n - n ≡ 0 = omega arith in
                   subst (λ (k : ℕ). Appends (contents end.now) (contents end.now) (take k (drop n text))) (sym none)
                   (Appends-nil (contents end.now))
 
-              between : Appends old.are_rewritten.last.written (contents mid.now)
-                  (slice_range text old.are_rewritten.last.at (found.start + at))
-              between =
-                  let done = old.are_rewritten in
-                  subst (λ (n : ℕ). Appends done.last.written (contents mid.now) (slice_range text done.last.at n))
-                  start_is
-                  (subst (Appends done.last.written (contents mid.now))
-                  (sym (slice_halves text done.last.at at (at + found.start) done.upto (omega arith)))
-                  (Appends-trans done.last.written written (contents mid.now) _ _ done.rest
-                  (subst (Appends written (contents mid.now)) (ap (take found.start) old.ahead_is
-                  ∙ part_ahead text at found.start) writes)))
-
       -- a turn: a piece is read, and what is known of the bytes ahead then is written
       module _ (was is : Bool) (at to : ℕ) (ahead piece seen rest : List ℕ) (left last : Option (List ℕ)) (now : F)
           (written : Option (List ℕ)) (still : was ≡ true → (is ≡ true) × (piece ≡ [])) (consumed : Consumes left last
           piece)
           (seen_is : seen ≡ ahead ++ piece)
-          (old : HasRewritten contents step search was at ahead unread left replace held now written)
+          (old : HasRewritten contents step sought was at ahead unread left replace held now written)
+          (rest_is : rest ≡ drop ((to - margin) - (at - margin)) seen)
         where
-          has_read : HasRewritten contents step search is at seen unread last replace held now written
+          has_read : HasRewritten contents step sought is at seen unread last replace held now written
           has_read =
-              subst (λ (l : List ℕ). HasRewritten contents step search is at l unread last replace held now written)
+              subst (λ (l : List ℕ). HasRewritten contents step sought is at l unread last replace held now written)
               (sym seen_is) (read_further was is at ahead piece left last now written still consumed old)
 
-          pub turn_passed : (offset : ℕ) (out : Option (List ℕ)) (next : F) → next ≡ now → offset ≤ length seen
+          pub turn_passed : (out : Option (List ℕ)) (next : F) → next ≡ now → at ≤ to
+              → to ≤ (at - margin) + length seen
               → ((more : List ℕ) → (is ≡ true → more ≡ [])
-              → AnswersSoFar search.query search.ignore_case (seen ++ more) 0 (NoneBefore offset))
-              → Appends written out (take offset seen) → to ≡ at + offset → rest ≡ drop offset seen
-              → HasRewritten contents step search is to rest unread last replace held next out
-          turn_passed offset out next next_is within none writes to_is rest_is =
-              subst (λ (f : F). HasRewritten contents step search is to rest unread last replace held f out) (sym
+              → AnswersAhead sought at (seen ++ more) (NoneBefore to))
+              → Appends written out (slice_range seen (at - (at - margin)) (to - (at - margin)))
+              → HasRewritten contents step sought is to rest unread last replace held next out
+          turn_passed out next next_is later within none writes =
+              subst (λ (f : F). HasRewritten contents step sought is to rest unread last replace held f out) (sym
               next_is)
-              (subst (λ (n : ℕ). HasRewritten contents step search is n rest unread last replace held now out)
-              (sym to_is)
-              (subst (λ (l : List ℕ). HasRewritten contents step search is (at + offset) l unread last replace held now
-              out)
-              (sym rest_is) (passed_by is at seen last now written has_read offset out within none writes)))
+              (subst (λ (l : List ℕ). HasRewritten contents step sought is to l unread last replace held now out)
+              (sym rest_is) (passed_by is at seen last now written has_read to out later within none writes))
 
-          pub turn_matched : (found moved : MatchValue) (bytes : Bor (List ℕ)) (mid end : MutBor W)
-              (answer : Result ⊤ Error) (next after : F) (out : Option (List ℕ)) → step now moved bytes mid answer end
-              next
-              → after ≡ next → out ≡ contents end.now → found.start < found.end → found.end ≤ length seen
+          pub turn_matched : (found : MatchValue) (bytes : Bor (List ℕ)) (mid end : MutBor W)
+              (answer : Result ⊤ Error) (next after : F) (out : Option (List ℕ)) → to ≡ found.end
+              → step now found bytes mid answer end next
+              → after ≡ next → out ≡ contents end.now → at ≤ found.start → found.start < found.end
+              → found.end ≤ (at - margin) + length seen
               → ((more : List ℕ) → (is ≡ true → more ≡ [])
-              → AnswersSoFar search.query search.ignore_case (seen ++ more) 0 (Found found))
-              → Appends written (contents mid.now) (take found.start seen)
-              → bytes.now ≡ slice_range seen found.start found.end → moved ≡ shifted at found → answer ≡ Ok tt
-              → to ≡ at + found.end → rest ≡ drop found.end seen
-              → HasRewritten contents step search is to rest unread last replace held after out
-          turn_matched found moved bytes mid end answer next after out called after_is out_is some within first writes
-              matched moved_is ok to_is rest_is =
-              subst (λ (f : F). HasRewritten contents step search is to rest unread last replace held f out) (sym
+              → AnswersAhead sought at (seen ++ more) (Found found))
+              → Appends written (contents mid.now)
+              (slice_range seen (at - (at - margin)) (found.start - (at - margin)))
+              → bytes.now ≡ slice_range seen (found.start - (at - margin)) (found.end - (at - margin))
+              → answer ≡ Ok tt → HasRewritten contents step sought is to rest unread last replace held after out
+          turn_matched found bytes mid end answer next after out to_is called after_is out_is later some within first
+              writes matched ok =
+              subst (λ (f : F). HasRewritten contents step sought is to rest unread last replace held f out) (sym
               after_is)
-              (subst (λ (o : Option (List ℕ)). HasRewritten contents step search is to rest unread last replace
-              held next
-              o)
-              (sym out_is)
-              (subst (λ (n : ℕ). HasRewritten contents step search is n rest unread last replace held next
-              (contents end.now)) (sym to_is)
-              (subst (λ (l : List ℕ). HasRewritten contents step search is (at + found.end) l unread last replace held
-              next
+              (subst (λ (o : Option (List ℕ)). HasRewritten contents step sought is to rest unread last replace held
+              next o) (sym out_is)
+              (subst (λ (l : List ℕ). HasRewritten contents step sought is to l unread last replace held next
               (contents end.now)) (sym rest_is)
-              (match_by is at seen last now written has_read found bytes mid end next some within first writes matched
-              (subst (λ (a : Result ⊤ Error). step now (shifted at found) bytes mid a end next) ok
-              (subst (λ (m : MatchValue). step now m bytes mid answer end next) moved_is called))))))
+              (subst (λ (n : ℕ). HasRewritten contents step sought is n (drop ((n - margin) - (at - margin)) seen)
+              unread last replace held next (contents end.now)) (sym to_is)
+              (match_by is at seen last now written has_read found bytes mid end next later some within first writes
+              matched (subst (λ (a : Result ⊤ Error). step now found bytes mid a end next) ok called)))))
 
-      -- once a text has ended, and no byte is held
+      -- once a text has ended, and no byte is ahead
       pub all_rewritten : (is_whole : Bool) (at : ℕ) (ahead : List ℕ) (left : Option (List ℕ)) (now : F)
-          (written : Option (List ℕ)) → is_whole ≡ true → length ahead ≡ 0 → NoneIsEmpty search.query.patterns
-          → IsAtEnd left → HasRewritten contents step search is_whole at ahead unread left replace held now written
-          → RewritesAllBy contents step search replace unread left held written
+          (written : Option (List ℕ)) → is_whole ≡ true → (at - margin) + length ahead ≤ at
+          → NoneIsEmpty (search_of sought).query.patterns → IsAtEnd left
+          → HasRewritten contents step sought is_whole at ahead unread left replace held now written
+          → RewritesAllOf contents step (AreMatches sought) (reach_of sought) replace unread left held written
       all_rewritten is_whole at ahead left now written whole none some end old =
           let long = ahead_len is_whole at ahead left now written old in
-          let all : at ≡ length old.text = omega (arith, long, none) in
-          let nothing : NothingOccurs search.query.patterns search.ignore_case (old.text ++ [])
-          (rest_from (old.text ++ []) at) = grind (arith, length-append) in
+          let all : at ≡ length old.text = omega (arith, long, none, old.are_rewritten.inside) in
+          let nothing : AreMatches sought (old.text ++ []) at [] =
+          goes_none sought (old.text ++ []) at (nothing_last sought (old.text ++ []) at some (λ i p begins.
+          omega (arith, all, length-append old.text [], goes_after sought (old.text ++ []) at i p begins))) in
           record {
             text = old.text;
             matches = old.matches;
             reads = old.reads;
             end = end;
-            are_greedy = subst (IsGreedy search.query search.ignore_case old.text 0) (append-nil old.matches)
-                (subst (λ (t : List ℕ). IsGreedy search.query search.ignore_case t 0 (old.matches ++ []))
+            are_matches = subst (AreMatches sought old.text 0) (append-nil old.matches)
+                (subst (λ (t : List ℕ). AreMatches sought t 0 (old.matches ++ []))
                 (append-nil old.text) (old.come_first [] [] (λ _. refl) nothing));
             are_rewritten = subst (λ (n : ℕ). AreRewritten contents step old.text old.matches replace held n
                 written) all

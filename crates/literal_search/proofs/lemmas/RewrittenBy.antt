@@ -1,7 +1,7 @@
 -- A text whose matches are rewritten by calls that write what a function of the match gives.
-use Rattle.std.proofs.Common.{◌≡◌, ℕ, ◌+◌, ◌-◌, ◌≤◌, ◌++◌, [], ◌∷◌, ◌∙◌, Err, IfErr, List, Ok, OnOk, Option, Result, ap}
+use Rattle.std.proofs.Common.{◌≡◌, ℕ, ◌-◌, ◌≤◌, ◌++◌, [], ◌∷◌, ◌∙◌, Err, IfErr, List, Ok, OnOk, Option, Result, ap}
 use Rattle.std.proofs.Common.{append-nil}
-use Rattle.std.proofs.Common.{append_assoc, arith, length, length-append, refl, drop, slice_range, subst, sym, take}
+use Rattle.std.proofs.Common.{append_assoc, arith, length, length-append, drop, slice_range, subst, sym, take}
 use Rattle.std.proofs.KnownBytes.{Appends-trans}
 use Rattle.std.specs.Bool.{⊤}
 use Rattle.std.specs.Borrow.{Bor, MutBor}
@@ -11,11 +11,14 @@ use Rattle.std.specs.declared.io.Error.{Error}
 use Rattle.literal_base.specs.Greedy.{IsGreedy}
 use Rattle.literal_base.specs.MatchValue.{MatchValue}
 use Rattle.literal_base.specs.Occurs.{pattern_at}
-use Rattle.literal_search.specs.Replaced.{RewritesAll, RewritesPart, StopsRewriting, replaced_by}
-use Rattle.literal_search.specs.ReplacedStream.{AreRewritten, RewritesAllBy, RewritesMatch, RewritesPartBy}
-use Rattle.literal_search.specs.ReplacedStream.{RewritingValue}
-use Rattle.literal_search.specs.ReplacedStream.{StopsRewritingBy}
+use Rattle.literal_search.specs.Replaced.{ReplacesAll, ReplacesPart, StopsReplacing, replaced_by}
+use Rattle.literal_search.specs.ReplacedStream.{RewritesAllOf, RewritesMatch, RewritesPartOf, RewritingValue}
+use Rattle.literal_search.specs.ReplacedStream.{StopsRewritingOf}
 use Rattle.literal_search.specs.SearchValue.{SearchValue}
+use Rattle.literal_search.specs.WholeWords.{AreWordsFrom, WholeWordsValue}
+use Rattle.literal_search.specs.Inside.Stream.{AreMatches}
+use Rattle.literal_search.specs.declared.sought.Sought.{Sought}
+use Rattle.literal_search.specs.declared.sought.Sought.TheVariants.{Any, Words}
 use Rattle.literal_search.specs.declared.replace_stream.ReplaceStreamError.{ReplaceStreamError}
 use Rattle.literal_search.specs.declared.replace_stream.ReplaceStreamError.TheVariants.{NotOneForEach, OutOfMemory}
 use Rattle.literal_search.specs.declared.replace_stream.ReplaceStreamError.TheVariants.{ReadFailed, WriteFailed}
@@ -95,26 +98,24 @@ module _ {F W : Type 0} (contents : W → Option (List ℕ))
               (sym (part_longer text behind first.at found.start (omega (arith, one.inside)) one.after))));
         }
 
-begins_from : (search : SearchValue) (text : List ℕ) (at : ℕ) (matches : List MatchValue)
-    → IsGreedy search.query search.ignore_case text at matches → BeginsFrom at matches
-begins_from search text at [] greedy = tt
-begins_from search text at (found ∷ more) greedy = greedy.0.occurs.after_start
-
 module _ {F W : Type 0} (contents : W → Option (List ℕ))
     (step : F → MatchValue → Bor (List ℕ) → MutBor W → Result ⊤ Error → MutBor W → F → Type 0)
     (replacements : List (List ℕ)) (holds : F → Type 0)
     (writes : (f : F) (found : MatchValue) (bytes : Bor (List ℕ)) (before behind : MutBor W) (next : F) → holds f
     → step f found bytes before (Ok tt) behind next
     → holds next × Appends (contents before.now) (contents behind.now) (pattern_at replacements found.pattern))
-    (search : SearchValue) (one_for_each : length replacements ≡ length search.query.patterns) (replace : F)
+    (AreMatches : List ℕ → ℕ → List MatchValue → Type 0)
+    (begins : (text : List ℕ) (at : ℕ) (matches : List MatchValue) → AreMatches text at matches
+    → BeginsFrom at matches)
+    (patterns reach : ℕ) (one_for_each : length replacements ≡ patterns) (replace : F)
     (held_first : holds replace) (unread left held written : Option (List ℕ))
   where
     abbrev replacement : MatchValue → List ℕ
     replacement found = pattern_at replacements found.pattern
 
     -- calls that write the replacement of the match's pattern replace each match
-    pub all_replaced : RewritesAllBy contents step search replace unread left held written
-        → RewritesAll search replacements unread left held written
+    pub all_replaced : RewritesAllOf contents step AreMatches reach replace unread left held written
+        → ReplacesAll AreMatches patterns reach replacements unread left held written
     all_replaced all =
         let done = all.are_rewritten in
         let made = are_written contents step replacement holds writes all.text (length all.text) written _ all.matches
@@ -127,7 +128,7 @@ module _ {F W : Type 0} (contents : W → Option (List ℕ))
           is_replaced = record {
             one_for_each = one_for_each;
             matches = all.matches;
-            are_greedy = all.are_greedy;
+            are_matches = all.are_matches;
             is_replaced = whole all.text all.matches made.out (made.is_replaced [] [] tt);
           };
           writes = made.appended;
@@ -145,8 +146,8 @@ module _ {F W : Type 0} (contents : W → Option (List ℕ))
             sym (append-nil out) ∙ (ap (λ l. out ++ l) (sym empty)
             ∙ (here ∙ ap (replaced_by replacement text 0) (append-nil matches)))
 
-    pub part_replaced : RewritesPartBy contents step search replace unread left held written
-        → RewritesPart search replacements unread left held written
+    pub part_replaced : RewritesPartOf contents step AreMatches reach replace unread left held written
+        → ReplacesPart AreMatches patterns reach replacements unread left held written
     part_replaced part =
         let done = part.are_rewritten in
         let made = are_written contents step replacement holds writes part.text part.at written _ part.matches done.last
@@ -159,32 +160,47 @@ module _ {F W : Type 0} (contents : W → Option (List ℕ))
           far = part.far;
           is_replaced = record {
             within = done.inside;
-            goes_on = λ more behind greedy. (
+            goes_on = λ more behind list. (
               part.matches ++ behind,
-              part.come_first more behind greedy,
-              made.is_replaced more behind (begins_from search (part.text ++ more) part.at behind greedy),
+              part.come_first more behind list,
+              made.is_replaced more behind (begins (part.text ++ more) part.at behind list),
             );
           };
           writes = made.appended;
         }
 
     -- and the errors are the same
-    pub stops_replacing : (error : ReplaceStreamError)
-        → StopsRewritingBy contents step search replace unread left held written error
-        → StopsRewriting search replacements unread left held written error
+    stops_replacing : (error : ReplaceStreamError)
+        → StopsRewritingOf contents step AreMatches reach replace unread left held written error
+        → StopsReplacing AreMatches patterns reach replacements unread left held written error
     stops_replacing NotOneForEach stops = absurd stops
     stops_replacing OutOfMemory stops = (one_for_each, stops.0, stops.1)
     stops_replacing (ReadFailed error) stops = (one_for_each, part_replaced stops)
     stops_replacing (WriteFailed error) stops = (one_for_each, stops)
 
     pub replaces_each : {A : Type 0} (result : Result A ReplaceStreamError)
-        → OnOk result (RewritesAllBy contents step search replace unread left held written)
-        → OnOk result (RewritesAll search replacements unread left held written)
+        → OnOk result (RewritesAllOf contents step AreMatches reach replace unread left held written)
+        → OnOk result (ReplacesAll AreMatches patterns reach replacements unread left held written)
     replaces_each (Ok done) all = all_replaced all
     replaces_each (Err error) all = all
 
     pub stops_each : {A : Type 0} (result : Result A ReplaceStreamError)
-        → IfErr result (StopsRewritingBy contents step search replace unread left held written)
-        → IfErr result (StopsRewriting search replacements unread left held written)
+        → IfErr result (StopsRewritingOf contents step AreMatches reach replace unread left held written)
+        → IfErr result (StopsReplacing AreMatches patterns reach replacements unread left held written)
     stops_each (Ok done) stops = stops
     stops_each (Err error) stops = stops_replacing error stops
+
+pub greedy_begins : (search : SearchValue) (text : List ℕ) (at : ℕ) (matches : List MatchValue)
+    → IsGreedy search.query search.ignore_case text at matches → BeginsFrom at matches
+greedy_begins search text at [] list = tt
+greedy_begins search text at (found ∷ more) list = list.0.occurs.after_start
+
+pub words_begin : (words : WholeWordsValue) (text : List ℕ) (at : ℕ) (matches : List MatchValue)
+    → AreWordsFrom words text at matches → BeginsFrom at matches
+words_begin words text at [] list = tt
+words_begin words text at (found ∷ more) list = list.0.occurs.occurs.after_start
+
+pub matches_begin : (s : Sought) (text : List ℕ) (at : ℕ) (matches : List MatchValue) → AreMatches s text at matches
+    → BeginsFrom at matches
+matches_begin (Any search) = greedy_begins search.now
+matches_begin (Words words) = words_begin words.now

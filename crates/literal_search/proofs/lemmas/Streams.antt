@@ -2,8 +2,9 @@
 use Rattle.std.proofs.lemmas.Grind.{common_steps}
 use Rattle.std.proofs.Common.{rules, ◌≡◌, ℕ, ◌+◌, ◌-◌, ◌≤◌, ◌<◌, ◌^◌, ◌++◌, [], ◌∷◌, List, Ok, Err, map, Option, None}
 use Rattle.std.proofs.Common.{Some, length, take, drop, ap, subst, sym, arith, append_assoc, append-nil}
-use Rattle.std.proofs.Common.{length-append, Bool, IfSome, true, false}
-use Rattle.std.proofs.Math.Seq.{take-append-add, drop-append-add}
+use Rattle.std.proofs.Common.{length-append, Bool, IfSome, true, false, refl, ◌∙◌}
+use Rattle.std.proofs.KnownBytes.{Consumes-trans}
+use Rattle.std.proofs.Math.Seq.{take-append-add}
 use Rattle.std.proofs.lemmas.Option.{none-some}
 use Rattle.std.proofs.lemmas.List.{drop-append-le, drop-drop, drop-take, length-drop, length-take-le, take-append-drop}
 use Rattle.std.proofs.lemmas.List.{take-append-le}
@@ -14,18 +15,17 @@ use Rattle.std.specs.Iterator.{Yields}
 use Rattle.std.specs.Option.{option_map}
 use Rattle.std.specs.declared.io.Error.{Error}
 use Rattle.std.specs.declared.io.ErrorKind.{ErrorKind}
-use Rattle.literal_base.specs.Greedy.{IsGreedy}
-use Rattle.literal_base.specs.Leftmost.{IsLeftmost, IsLeftmostMatch}
+use Rattle.literal_base.specs.Leftmost.{IsLeftmostMatch}
 use Rattle.literal_base.specs.MatchValue.{MatchValue}
-use Rattle.literal_base.specs.Occurs.{NoneIsEmpty, NothingOccurs, Occurs, rest_from, between, pattern_at}
+use Rattle.literal_base.specs.Occurs.{Occurs, rest_from, between, pattern_at}
+use Rattle.literal_base.specs.Query.{Query}
 use Rattle.literal_search.specs.SearchValue.{SearchValue, longest_of}
-use Rattle.literal_search.specs.Stream.{EndsFailed, EndsWhole, GivesStreamed, GoesBehind, IsLeftmostAhead, PassesOver}
-use Rattle.literal_search.specs.Stream.{StreamValue, known}
-use Rattle.literal_search.specs.Inside.Stream.{GoesThrough, HasGoneOn, HasPassed, HasReadOn, IsSoundReading, IsWindow}
-use Rattle.literal_search.specs.Inside.Stream.{held, shifted, stream_value}
+use Rattle.literal_search.specs.Stream.{EndsFailed, EndsWhole, GivesAhead, GoesBehind, IsFirstAhead, PassesOver}
+use Rattle.literal_search.specs.Stream.{ReadsOn, StreamValue, known, stream_over}
+use Rattle.literal_search.specs.Inside.Stream.{GoesThrough, HasGoneOn, HasPassed, HasReadOn, IsOpen, IsSoundReading}
+use Rattle.literal_search.specs.Inside.Stream.{IsWindow, held, stream_value}
 use Rattle.literal_search.specs.declared.reading.Reading.{Reading}
 use Rattle.literal_search.specs.declared.window.Window.{Window}
-use Rattle.literal_base.specs.Query.{Query}
 pub use Rattle.literal_fingerprints.proofs.lemmas.Skipped.{part_behind}
 use Rattle.literal_search.proofs.lemmas.Longest.{longest_is}
 use Rattle.literal_search.proofs.lemmas.Prepared.{length_part}
@@ -48,67 +48,6 @@ pub leftmost_longer : (query : Query) (ignore_case : Bool) (text more : List ℕ
     → IsLeftmostMatch query ignore_case (text ++ more) (rest_from (text ++ more) at) found
 leftmost_longer query ignore_case text more at found room first = grind (arith, common_steps, longest_is)
 
-module _ (patterns : List (List ℕ)) (ignore_case : Bool) (before text : List ℕ) where
-  -- a part of what is ahead is the same part of the whole text
-  same_ahead : (p n : ℕ) → slice_range (before ++ text) (length before + p) ((length before + p) + n)
-      ≡ slice_range text p (p + n)
-  same_ahead p n = grind (arith, drop-append-add)
-
-  -- what occurs ahead occurs in the whole text
-  pub occurs_behind : (i p : ℕ) → Occurs patterns ignore_case text (rest_from text 0) i p
-      → Occurs patterns ignore_case (before ++ text) (rest_from (before ++ text) (length before)) i (length before + p)
-  occurs_behind i p occurs = grind (arith, length-append, same_ahead)
-
-  -- and what occurs in that from there on occurs ahead
-  pub occurs_ahead : (i p : ℕ)
-      → Occurs patterns ignore_case (before ++ text) (rest_from (before ++ text) (length before)) i (length before + p)
-      → Occurs patterns ignore_case text (rest_from text 0) i p
-  occurs_ahead i p occurs = grind (arith, length-append, same_ahead)
-
-  -- by any offset
-  occurs_ahead_at : (i p : ℕ)
-      → Occurs patterns ignore_case (before ++ text) (rest_from (before ++ text) (length before)) i p
-      → Occurs patterns ignore_case text (rest_from text 0) i (p - length before)
-  occurs_ahead_at i p occurs = grind (arith, common_steps, occurs_ahead)
-
-  -- where nothing begins ahead before an offset, nothing does in the whole text
-  pub none_ahead : (offset : ℕ) → ((i p : ℕ) → Occurs patterns ignore_case text (rest_from text 0) i p → offset ≤ p)
-      → (i p : ℕ) → Occurs patterns ignore_case (before ++ text) (rest_from (before ++ text) (length before)) i p
-      → length before + offset ≤ p
-  none_ahead offset none i p occurs =
-      let here = none i (p - length before) (occurs_ahead_at i p occurs) in
-      grind arith
-
-  -- where nothing occurs ahead nothing does there in the whole text
-  pub nothing_ahead : NothingOccurs patterns ignore_case text (rest_from text 0)
-      → NothingOccurs patterns ignore_case (before ++ text) (rest_from (before ++ text) (length before))
-  nothing_ahead nothing = λ i p occurs. nothing i (p - length before) (occurs_ahead_at i p occurs)
-
--- the leftmost match ahead is that of the whole text from there on
-pub leftmost_behind : (query : Query) (ignore_case : Bool) (before text : List ℕ) (found : MatchValue)
-    → IsLeftmostMatch query ignore_case text (rest_from text 0) found
-    → IsLeftmostMatch query ignore_case (before ++ text) (rest_from (before ++ text) (length before))
-    (shifted (length before) found)
-leftmost_behind query ignore_case before text found first =
-    let start_is : length before + found.start ≡ found.start + length before = omega arith in
-    record {
-      occurs = grind (arith, common_steps, occurs_behind);
-      whole = omega (arith, first.whole);
-      earliest = λ i p earlier occurs.
-          let start = occurs.after_start in
-          first.earliest i (p - length before) (omega (arith, earlier, start))
-          (occurs_ahead_at query.patterns ignore_case before text i p occurs);
-      best = grind (arith, occurs_ahead);
-    }
-
--- where nothing begins before a later offset, an answer for the rest from there on is one from an earlier offset on
-pub leftmost_from : (query : Query) (ignore_case : Bool) (text : List ℕ) (from to : ℕ) (answer : Option MatchValue)
-    → from ≤ to
-    → ((i p : ℕ) → Occurs query.patterns ignore_case text (rest_from text from) i p → to ≤ p)
-    → IsLeftmost query ignore_case text (rest_from text to) answer
-    → IsLeftmost query ignore_case text (rest_from text from) answer
-leftmost_from query ignore_case text from to answer later none nothing = grind arith
-
 -- a part, and what was written behind it
 pub part_and_more : (xs written behind : List ℕ) (start end n : ℕ) → start ≤ end → end ≤ length xs
     → n ≤ length written
@@ -123,31 +62,13 @@ part_and_more xs written behind start end n ordered inside room =
     let whole : (end + n) - start ≡ length (slice_range xs start end) + n = omega (arith, len, ordered) in
     grind (arith, take-append-add, take-append-le)
 
-module _ (search : SearchValue) (from now : ℕ) (bytes : List ℕ) (later : from ≤ now)
-    (within : now - from ≤ length bytes) (passed : PassesOver search from now bytes) where
-  -- the same text, cut where a search stands now
-  cut_here : (before : List ℕ) → (before ++ take (now - from) bytes) ++ drop (now - from) bytes ≡ before ++ bytes
-  cut_here before = grind (arith, append_assoc, take-append-drop)
-
-  cut_len : (before : List ℕ) → length before ≡ from → length (before ++ take (now - from) bytes) ≡ now
-  cut_len before len = grind (arith, length-append, length-take-le)
-
-  -- an answer for what is ahead now is one for what was ahead before bytes were passed over
-  ahead_before : (answer : Option MatchValue) → IsLeftmostAhead search now answer (drop (now - from) bytes)
-      → IsLeftmostAhead search from answer bytes
-  ahead_before answer leftmost = λ before len.
-      leftmost_from search.query search.ignore_case (before ++ bytes) from now answer later (passed before len)
-      (subst (λ (text : List ℕ). IsLeftmost search.query search.ignore_case text (rest_from text now) answer)
-      (cut_here before) (leftmost (before ++ take (now - from) bytes) (cut_len before len)))
-
-  -- and bytes that are passed over now are passed over from before
-  passes_more : (to : ℕ) → PassesOver search now to (drop (now - from) bytes) → PassesOver search from to bytes
-  passes_more to more = λ before len i p occurs.
-      let there : Occurs search.query.patterns search.ignore_case (before ++ bytes) (rest_from (before ++ bytes) now)
-      i p = let begun = passed before len i p occurs in grind arith in
-      more (before ++ take (now - from) bytes) (cut_len before len) i p
-      (subst (λ (text : List ℕ). Occurs search.query.patterns search.ignore_case text (rest_from text now) i p)
-      (sym (cut_here before)) there)
+-- what holds of a search from an offset on
+pub record GoesFrom (IsFirst : List ℕ → ℕ → Option MatchValue → Type 0) (Begins : List ℕ → ℕ → ℕ → ℕ → Type 0)
+    : Type 0 where
+  pub after : (text : List ℕ) (from i p : ℕ) → Begins text from i p → from ≤ p
+  pub later : (text : List ℕ) (from to i p : ℕ) → to ≤ p → Begins text from i p → Begins text to i p
+  pub first : (text : List ℕ) (from to : ℕ) (answer : Option MatchValue) → from ≤ to
+      → ((i p : ℕ) → Begins text from i p → to ≤ p) → IsFirst text to answer → IsFirst text from answer
 
 -- an offset behind what a window holds can be told
 pub held_fits : (w : Window) → IsWindow w → w.offset + length (held w) < 2 ^ 64
@@ -165,141 +86,284 @@ pub read_in_part : (is_whole : Bool) (failure : Option ErrorKind) (error : Optio
     → is_whole ≡ false
 read_in_part is_whole failure error kind is apart failed = grind arith
 
-module _ (search : SearchValue) (from now : ℕ) (seen rest : List ℕ) (before : HasPassed search from now seen rest) where
-  -- what is held, and whatever follows it, is what is ahead now
-  rest_and_more : (more : List ℕ) → drop (now - from) (seen ++ more) ≡ rest ++ more
-  rest_and_more more = grind (arith, drop-append-le)
+-- where reading had failed it stays so
+failed_on : (failure : Option ErrorKind) (r s : Reading) (first piece : List ℕ)
+    → r.failure ≡ option_map error_kind r.error
+    → IfSome failure (λ kind. (first ≡ []) × (r.failure ≡ Some kind)) → HasReadOn r piece s
+    → IfSome failure (λ kind. (first ++ piece ≡ []) × (s.failure ≡ Some kind))
+failed_on None r s first piece sound before on = tt
+failed_on (Some kind) r s first piece sound before on =
+    let closed : ¬ IsOpen r = λ yes.
+    none-some kind (sym (ap (option_map error_kind) yes.1) ∙ (sym sound ∙ before.1)) in
+    let still = on closed in (
+      ap (λ l. l ++ piece) before.0 ∙ still.0,
+      ap (λ (q : Reading). q.failure) still.1 ∙ before.1,
+    )
 
-  seen_within : (more : List ℕ) → now - from ≤ length (seen ++ more)
-  seen_within more = omega (arith, before.within, length-append seen more)
-
-  -- after more bytes are passed over
-  passed_more : (n : ℕ) → n ≤ length rest
-      → ((more : List ℕ) (i p : ℕ) → Occurs search.query.patterns search.ignore_case (rest ++ more)
-      (rest_from (rest ++ more) 0) i p → n ≤ p) → HasPassed search from (now + n) seen (drop n rest)
-  passed_more n within none = record {
-    later = omega (arith, before.later);
-    within = grind (arith, length-drop);
-    rest_is = grind (arith, drop-drop);
-    passed = λ more. passes_more search from now (seen ++ more) before.later (seen_within more) (before.passed more)
-        (now + n) (λ prefix len i p occurs.
-        let there = none_ahead search.query.patterns search.ignore_case prefix (rest ++ more) n (none more) i p in
-        let here = rest_and_more more in
-        grind arith);
-  }
-
-  -- the match of what is held, and of what follows it, is the answer
-  found_ahead : (more : List ℕ) (found : MatchValue)
-      → IsLeftmostMatch search.query search.ignore_case (rest ++ more) (rest_from (rest ++ more) 0) found
-      → IsLeftmostAhead search from (Some (shifted now found)) (seen ++ more)
-  found_ahead more found leftmost =
-      ahead_before search from now (seen ++ more) before.later (seen_within more) (before.passed more)
-      (Some (shifted now found)) (λ prefix len.
-      let there = leftmost_behind search.query search.ignore_case prefix (rest ++ more) found leftmost in
-      let here = rest_and_more more in
-      grind arith)
-
-  -- where nothing occurs in what is held, and nothing follows, nothing occurs ahead
-  nothing_left : NothingOccurs search.query.patterns search.ignore_case rest (rest_from rest 0)
-      → IsLeftmostAhead search from None seen
-  nothing_left nothing =
-      ahead_before search from now seen before.later before.within
-      (subst (PassesOver search from now) (append-nil seen) (before.passed [])) None (grind (arith, nothing_ahead))
-
--- where nothing was read, no failure is lost
-nothing_read : (failure : Option ErrorKind) (piece : List ℕ) → piece ≡ []
-    → IfSome failure (λ kind. (piece ≡ []) × (failure ≡ Some kind))
-nothing_read failure piece is = grind arith
-
--- and where reading had failed it stays so
-pub failed_still : (failure : Option ErrorKind) (r s : Reading) (piece : List ℕ) → r.failure ≡ failure
-    → r.failure ≡ option_map error_kind r.error → HasReadOn r piece s
-    → IfSome failure (λ kind. (piece ≡ []) × (s.failure ≡ Some kind))
-failed_still failure r s piece is sound on = grind arith
-
--- a search that has not read anything yet
-pub gone_nowhere : (m : StreamValue) → HasGoneOn m m
-gone_nowhere m = search rules
-
--- it passes over bytes
-pub gone_past : (old now new : StreamValue) (n : ℕ) → n ≤ length now.held
-    → ((more : List ℕ) (i p : ℕ) → Occurs old.search.query.patterns old.search.ignore_case (now.held ++ more)
-    (rest_from (now.held ++ more) 0) i p → n ≤ p)
-    → new ≡ record now { held = drop n now.held; offset = now.offset + n }
-    → HasGoneOn old now → HasGoneOn old new
-gone_past old now new n within none is gone =
-    let passed = passed_more old.search old.offset now.offset (old.held ++ gone.piece) now.held gone.passed n within
-    none in
-    grind arith
-
--- it reads on
-pub gone_on : (old : StreamValue) (search : SearchValue) (w v : Window) (r s : Reading) (unread left : Option (List ℕ))
-    → IsSoundReading r unread → v.offset ≡ w.offset
-    → (piece : List ℕ) × Consumes unread left piece × (held v ≡ held w ++ piece) × HasReadOn r piece s
-    → HasGoneOn old (stream_value search w r unread false) → HasGoneOn old (stream_value search v s left false)
-gone_on old search w v r s unread left sound offset read gone =
-    let passed : HasPassed old.search old.offset w.offset ((old.held ++ gone.piece) ++ read.0) (held w ++ read.0) =
-    grind (arith, common_steps) in
-    record {
-      piece = gone.piece ++ read.0;
-      search_is = gone.search_is;
-      is_over = gone.is_over;
-      reads = grind (arith, common_steps, failed_still);
-      passed = grind (arith, append_assoc);
-    }
-
--- how much is read then
-gone_len : (old now : StreamValue) (gone : HasGoneOn old now)
-    → now.offset + length now.held ≡ old.offset + length (old.held ++ gone.piece)
-gone_len old now gone = grind (arith, length-drop)
+-- a piece is read after another
+reads_more : (unread now left : Option (List ℕ)) (failure : Option ErrorKind) (r s : Reading) (first piece : List ℕ)
+    → r.failure ≡ option_map error_kind r.error → ReadsOn unread failure first now r.failure
+    → Consumes now left piece → HasReadOn r piece s → ReadsOn unread failure (first ++ piece) left s.failure
+reads_more unread now left failure r s first piece sound reads consumed on = record {
+  consumed = Consumes-trans unread now left first piece reads.consumed consumed;
+  failed = failed_on failure r s first piece sound reads.failed on;
+}
 
 -- nothing is known to follow where nothing is left to be read
 pub known_end : (unread : Option (List ℕ)) → IsAtEnd unread → known unread ≡ []
 known_end unread over = grind arith
 
--- where nothing begins before the end of the last bytes, nothing occurs in them
-pub nothing_last : (patterns : List (List ℕ)) (ignore_case : Bool) (rest : List ℕ) → NoneIsEmpty patterns
-    → ((i p : ℕ) → Occurs patterns ignore_case (rest ++ []) (rest_from (rest ++ []) 0) i p → length rest ≤ p)
-    → NothingOccurs patterns ignore_case rest (rest_from rest 0)
-nothing_last patterns ignore_case rest not_empty none = grind (arith, append-nil)
+module _ (IsFirst : List ℕ → ℕ → Option MatchValue → Type 0) (Begins : List ℕ → ℕ → ℕ → ℕ → Type 0) (margin : ℕ)
+    (goes : GoesFrom IsFirst Begins)
+  where
+    module _ (from now : ℕ) (bytes : List ℕ) (later : from ≤ now)
+        (within : (now - margin) - (from - margin) ≤ length bytes)
+        (passed : PassesOver IsFirst Begins margin from now bytes)
+      where
+        abbrev cut : ℕ
+        cut = (now - margin) - (from - margin)
 
--- what it gives where it goes on behind a match
-pub goes_behind : (old now new : StreamValue) (found answer : MatchValue)
-    → IsLeftmostMatch old.search.query old.search.ignore_case (now.held ++ known now.unread)
-    (rest_from (now.held ++ known now.unread) 0) found
-    → found.start < found.end → found.end ≤ length now.held → now.offset + length now.held < 2 ^ 64
-    → answer ≡ shifted now.offset found
-    → new ≡ record now { held = drop found.end now.held; offset = now.offset + found.end }
-    → HasGoneOn old now → GoesBehind old answer new
-goes_behind old now new found answer leftmost some within fits answer_is is gone =
-    let first = found_ahead old.search old.offset now.offset (old.held ++ gone.piece) now.held gone.passed
-    (known now.unread) found leftmost in
-    let len = gone_len old now gone in
-    grind (arith, drop-drop)
+        -- the same text, cut where the bytes ahead begin now
+        cut_here : (before : List ℕ) → (before ++ take cut bytes) ++ drop cut bytes ≡ before ++ bytes
+        cut_here before = grind (arith, append_assoc, take-append-drop)
 
--- where it is over
-pub ends_whole : (old now new : StreamValue) → IsAtEnd now.unread → now.failure ≡ None
-    → NothingOccurs old.search.query.patterns old.search.ignore_case now.held (rest_from now.held 0)
-    → new ≡ record now { held = []; offset = now.offset + length now.held; is_over = true }
-    → HasGoneOn old now → EndsWhole old new
-ends_whole old now new over sound nothing is gone =
-    let none = nothing_left old.search old.offset now.offset (old.held ++ gone.piece) now.held gone.passed nothing in
-    let len = gone_len old now gone in
-    grind arith
+        cut_len : (before : List ℕ) → length before ≡ from - margin
+            → length (before ++ take cut bytes) ≡ now - margin
+        cut_len before len =
+            let taken = length-take-le cut bytes within in
+            omega (arith, later, len, taken, length-append before (take cut bytes))
 
--- and where reading failed
-pub ends_failed : (old now new : StreamValue) (error : Error) → now.failure ≡ Some (error_kind error)
-    → ((more : List ℕ) (i p : ℕ) → Occurs old.search.query.patterns old.search.ignore_case (now.held ++ more)
-    (rest_from (now.held ++ more) 0) i p → length now.held - (longest_of old.search.query.patterns - 1) ≤ p)
-    → new ≡ record now { held = []; offset = now.offset + length now.held; is_over = true }
-    → HasGoneOn old now → EndsFailed old error new
-ends_failed old now new error failed none is gone =
-    let seen = old.held ++ gone.piece in
-    let longest = longest_of old.search.query.patterns in
-    let offset = gone_len old now gone in
-    let far = passed_more old.search old.offset now.offset seen now.held gone.passed
-    (length now.held - (longest - 1)) (omega arith) none in
-    grind arith
+        -- an answer for what is ahead now is one for what was ahead before bytes were passed over
+        ahead_before : (answer : Option MatchValue) → IsFirstAhead IsFirst Begins margin now answer (drop cut bytes)
+            → IsFirstAhead IsFirst Begins margin from answer bytes
+        ahead_before answer leftmost = λ before len.
+            goes.first (before ++ bytes) from now answer later (passed before len)
+            (subst (λ (text : List ℕ). IsFirst text now answer) (cut_here before)
+            (leftmost (before ++ take cut bytes) (cut_len before len)))
+
+        -- and bytes that are passed over now are passed over from before
+        passes_more : (to : ℕ) → PassesOver IsFirst Begins margin now to (drop cut bytes)
+            → PassesOver IsFirst Begins margin from to bytes
+        passes_more to more = λ before len i p begins.
+            more (before ++ take cut bytes) (cut_len before len) i p
+            (subst (λ (text : List ℕ). Begins text now i p) (sym (cut_here before))
+            (goes.later (before ++ bytes) from now i p (passed before len i p begins) begins))
+
+    module _ (from now : ℕ) (seen rest : List ℕ) (before : HasPassed IsFirst Begins margin from now seen rest) where
+      -- what is held, and whatever follows it, is what is ahead now
+      rest_and_more : (more : List ℕ) → drop ((now - margin) - (from - margin)) (seen ++ more) ≡ rest ++ more
+      rest_and_more more =
+          drop-append-le ((now - margin) - (from - margin)) seen more before.within
+          ∙ ap (λ l. l ++ more) (sym before.rest_is)
+
+      seen_within : (more : List ℕ) → (now - margin) - (from - margin) ≤ length (seen ++ more)
+      seen_within more = omega (arith, before.within, length-append seen more)
+
+      -- bytes that are passed over now, whatever follows
+      pass_on : (to : ℕ) (more : List ℕ) → PassesOver IsFirst Begins margin now to (rest ++ more)
+          → PassesOver IsFirst Begins margin from to (seen ++ more)
+      pass_on to more none =
+          passes_more from now (seen ++ more) before.later (seen_within more) (before.passed more) to
+          (subst (PassesOver IsFirst Begins margin now to) (sym (rest_and_more more)) none)
+
+      -- after more bytes are passed over
+      passed_more : (to : ℕ) → now ≤ to → (to - margin) - (now - margin) ≤ length rest
+          → ((more : List ℕ) → PassesOver IsFirst Begins margin now to (rest ++ more))
+          → HasPassed IsFirst Begins margin from to seen (drop ((to - margin) - (now - margin)) rest)
+      passed_more to later within none =
+          let long : length rest ≡ length seen - ((now - margin) - (from - margin)) =
+          ap length before.rest_is ∙ length-drop ((now - margin) - (from - margin)) seen in
+          let sum : ((now - margin) - (from - margin)) + ((to - margin) - (now - margin))
+          ≡ (to - margin) - (from - margin) = omega (arith, later, before.later) in
+          record {
+            later = omega (arith, before.later, later);
+            within = omega (arith, within, long, before.within, later, before.later);
+            rest_is = ap (drop ((to - margin) - (now - margin))) before.rest_is
+                ∙ (drop-drop ((to - margin) - (now - margin)) ((now - margin) - (from - margin)) seen
+                ∙ ap (λ n. drop n seen) sum);
+            passed = λ more. pass_on to more (none more);
+          }
+
+      -- the answer for what is held, and for what follows it, is the answer
+      first_ahead : (more : List ℕ) (answer : Option MatchValue)
+          → IsFirstAhead IsFirst Begins margin now answer (rest ++ more)
+          → IsFirstAhead IsFirst Begins margin from answer (seen ++ more)
+      first_ahead more answer first =
+          ahead_before from now (seen ++ more) before.later (seen_within more) (before.passed more) answer
+          (subst (IsFirstAhead IsFirst Begins margin now answer) (sym (rest_and_more more)) first)
+
+    -- a search that has not read anything yet
+    pub gone_nowhere : (m : StreamValue) → HasGoneOn IsFirst Begins margin m m
+    gone_nowhere m = record {
+      piece = [];
+      search_is = refl;
+      is_over = refl;
+      reads = search rules;
+      passed = record {
+        later = omega arith;
+        within = omega arith;
+        rest_is = grind (arith, append-nil);
+        passed = λ more before len i p begins.
+            goes.after (before ++ ((m.held ++ []) ++ more)) m.offset i p begins;
+      };
+    }
+
+    -- it passes over bytes
+    pub gone_past : (old now new : StreamValue) (to : ℕ) → now.offset ≤ to
+        → (to - margin) - (now.offset - margin) ≤ length now.held
+        → ((more : List ℕ) → PassesOver IsFirst Begins margin now.offset to (now.held ++ more))
+        → new ≡ record now { held = drop ((to - margin) - (now.offset - margin)) now.held; offset = to }
+        → HasGoneOn IsFirst Begins margin old now → HasGoneOn IsFirst Begins margin old new
+    gone_past old now new to later within none is gone =
+        let passed = passed_more old.offset now.offset (old.held ++ gone.piece) now.held gone.passed to later within
+        none in
+        subst (HasGoneOn IsFirst Begins margin old) (sym is)
+        (record {
+          piece = gone.piece;
+          search_is = gone.search_is;
+          is_over = gone.is_over;
+          reads = gone.reads;
+          passed = passed;
+        })
+
+    -- it reads on
+    pub gone_on : (old : StreamValue) (searched : SearchValue) (w v : Window) (at : ℕ) (r s : Reading)
+        (unread left : Option (List ℕ)) → IsSoundReading r unread
+        → (piece : List ℕ) × Consumes unread left piece × (held v ≡ held w ++ piece) × HasReadOn r piece s
+        → HasGoneOn IsFirst Begins margin old (stream_value searched w at r unread false)
+        → HasGoneOn IsFirst Begins margin old (stream_value searched v at s left false)
+    gone_on old searched w v at r s unread left sound read gone =
+        let passed = gone.passed in
+        record {
+          piece = gone.piece ++ read.0;
+          search_is = gone.search_is;
+          is_over = gone.is_over;
+          reads = reads_more old.unread unread left old.failure r s gone.piece read.0 sound.failure gone.reads read.1
+              read.3;
+          passed = record {
+            later = passed.later;
+            within = omega (
+              arith,
+              passed.within,
+              length-append old.held gone.piece,
+              length-append old.held (gone.piece ++ read.0),
+              length-append gone.piece read.0,
+            );
+            rest_is = read.2
+                ∙ (ap (λ l. l ++ read.0) passed.rest_is
+                ∙ (sym (drop-append-le ((at - margin) - (old.offset - margin)) (old.held ++ gone.piece) read.0
+                passed.within)
+                ∙ ap (drop ((at - margin) - (old.offset - margin))) (append_assoc old.held gone.piece read.0)));
+            passed = λ more.
+                subst (PassesOver IsFirst Begins margin old.offset at)
+                (sym (append_assoc (old.held ++ gone.piece) read.0 more)
+                ∙ ap (λ l. l ++ more) (append_assoc old.held gone.piece read.0))
+                (passed.passed (read.0 ++ more));
+          };
+        }
+
+    module _ (old now new : StreamValue) (gone : HasGoneOn IsFirst Begins margin old now) where
+      abbrev seen : List ℕ
+      seen = old.held ++ gone.piece
+
+      -- how much is read then
+      gone_len : (now.offset - margin) + length now.held ≡ (old.offset - margin) + length seen
+      gone_len =
+          let long = ap length gone.passed.rest_is
+          ∙ length-drop ((now.offset - margin) - (old.offset - margin)) seen in
+          omega (arith, long, gone.passed.within, gone.passed.later)
+
+      -- where it ends, past all bytes that were read
+      over_all : new ≡ record now {
+        held = [];
+        offset = (now.offset - margin) + length now.held;
+        is_over = true;
+      } → new ≡ stream_over IsFirst Begins margin old gone.piece new
+      over_all is =
+          let same = gone.search_is in
+          let len = gone_len in
+          grind arith
+
+      -- what it gives where it goes on behind a match
+      pub goes_behind : (found : MatchValue)
+          → IsFirstAhead IsFirst Begins margin now.offset (Some found) (now.held ++ known now.unread)
+          → now.offset < found.end → found.end ≤ (now.offset - margin) + length now.held → found.end < 2 ^ 64
+          → new ≡ record now {
+            held = drop ((found.end - margin) - (now.offset - margin)) now.held;
+            offset = found.end;
+          }
+          → GoesBehind IsFirst Begins margin old found new
+      goes_behind found first some within fits is =
+          let passed = gone.passed in
+          let len = gone_len in
+          let unread_is : new.unread ≡ now.unread = ap (λ (m : StreamValue). m.unread) is in
+          let failure_is : new.failure ≡ now.failure = ap (λ (m : StreamValue). m.failure) is in
+          let sum : ((now.offset - margin) - (old.offset - margin))
+          + ((found.end - margin) - (now.offset - margin))
+          ≡ (found.end - margin) - (old.offset - margin) = omega (arith, some, passed.later) in
+          let held_is : drop ((found.end - margin) - (now.offset - margin)) now.held
+          ≡ drop ((found.end - margin) - (old.offset - margin)) seen =
+          ap (drop ((found.end - margin) - (now.offset - margin))) passed.rest_is
+          ∙ (drop-drop ((found.end - margin) - (now.offset - margin))
+          ((now.offset - margin) - (old.offset - margin)) seen
+          ∙ ap (λ n. drop n seen) sum) in
+          let same = gone.search_is in
+          let still = gone.is_over in
+          record {
+            piece = gone.piece;
+            reads = rw (unread_is, failure_is) gone.reads;
+            leftmost = subst (λ (u : Option (List ℕ)). IsFirstAhead IsFirst Begins margin old.offset (Some found)
+                (seen ++ known u)) (sym unread_is)
+                (first_ahead old.offset now.offset seen now.held passed (known now.unread) (Some found) first);
+            some = omega (arith, some, passed.later);
+            within = omega (arith, within, len);
+            fits = fits;
+            goes_on = grind arith;
+          }
+
+      -- where it is over
+      pub ends_whole : IsAtEnd now.unread → now.failure ≡ None
+          → IsFirstAhead IsFirst Begins margin now.offset None now.held
+          → new ≡ record now { held = []; offset = (now.offset - margin) + length now.held; is_over = true }
+          → EndsWhole IsFirst Begins margin old new
+      ends_whole end sound nothing is =
+          let unread_is : new.unread ≡ now.unread = ap (λ (m : StreamValue). m.unread) is in
+          let failure_is : new.failure ≡ now.failure = ap (λ (m : StreamValue). m.failure) is in
+          record {
+            piece = gone.piece;
+            reads = rw (unread_is, failure_is) gone.reads;
+            end = rw unread_is end;
+            no_failure = failure_is ∙ sound;
+            nothing = subst (IsFirstAhead IsFirst Begins margin old.offset None) (append-nil seen)
+                (first_ahead old.offset now.offset seen now.held gone.passed [] None
+                (subst (IsFirstAhead IsFirst Begins margin now.offset None) (sym (append-nil now.held)) nothing));
+            over = over_all is;
+          }
+
+      -- and where reading failed
+      pub ends_failed : (error : Error) → now.failure ≡ Some (error_kind error)
+          → ((more : List ℕ) → PassesOver IsFirst Begins margin now.offset
+          ((now.offset - margin) + length now.held - (longest_of old.search.query.patterns + margin - 1))
+          (now.held ++ more))
+          → new ≡ record now { held = []; offset = (now.offset - margin) + length now.held; is_over = true }
+          → EndsFailed IsFirst Begins margin old error new
+      ends_failed error failed none is =
+          let unread_is : new.unread ≡ now.unread = ap (λ (m : StreamValue). m.unread) is in
+          let failure_is : new.failure ≡ now.failure = ap (λ (m : StreamValue). m.failure) is in
+          let offset_is : new.offset ≡ (now.offset - margin) + length now.held =
+          ap (λ (m : StreamValue). m.offset) is in
+          record {
+            piece = gone.piece;
+            reads = rw (unread_is, failure_is) gone.reads;
+            failure = failure_is ∙ failed;
+            nothing = λ more.
+                subst (λ (n : ℕ). PassesOver IsFirst Begins margin old.offset
+                (n - (longest_of old.search.query.patterns + margin - 1)) (seen ++ more)) (sym offset_is)
+                (pass_on old.offset now.offset seen now.held gone.passed
+                ((now.offset - margin) + length now.held - (longest_of old.search.query.patterns + margin - 1)) more
+                (none more));
+            over = over_all is;
+          }
 
 -- what is read of a known text, and what is then known to follow, is all that is ahead
 pub seen_all : (held piece rest : List ℕ) (unread : Option (List ℕ)) → Consumes (Some rest) unread piece
@@ -311,72 +375,128 @@ pub seen_whole : (held piece rest : List ℕ) (unread : Option (List ℕ)) → I
     → Consumes (Some rest) unread piece → held ++ piece ≡ held ++ rest
 seen_whole held piece rest unread over taken = grind (arith, append-nil)
 
-module _ (search : SearchValue) (text : List ℕ) where
-  -- behind a match it stands in the text still
-  stands_behind : (m : StreamValue) (found : MatchValue) (n : StreamValue) → GoesThrough search text m
-      → GivesStreamed m (Some (Ok found)) n → GoesThrough search text n
-  stands_behind m found n stands step =
-      let goes = step.2 in
-      let seen = m.held ++ goes.piece in
-      let k = found.end - m.offset in
-      let taken = subst (λ (u : Option (List ℕ)). Consumes u n.unread goes.piece) stands.unread goes.reads.consumed in
-      let all = seen_all m.held goes.piece stands.rest n.unread taken in
-      let held : n.held ≡ drop k seen = ap (λ (v : StreamValue). v.held) goes.goes_on in
-      record {
-        before = stands.before ++ take k seen;
-        rest = known n.unread;
-        search_is = grind arith;
-        unread = all.0;
-        offset = grind (arith, length-append, length-take-le);
-        whole = rw (
-          held,
-          append_assoc stands.before (take k seen) (drop k seen ++ known n.unread),
-          ← append_assoc (take k seen) (drop k seen) (known n.unread),
-          take-append-drop k seen,
-          all.1,
-        ) stands.whole;
-        not_over = grind arith;
-      }
+-- a list of all matches of a text from an offset on: it is the leftmost one, followed by those behind it
+pub record GoesOverAll (IsFirst : List ℕ → ℕ → Option MatchValue → Type 0)
+    (AreAll : List ℕ → ℕ → List MatchValue → Type 0) : Type 0 where
+  pub none : (text : List ℕ) (from : ℕ) → IsFirst text from None → AreAll text from []
+  pub some : (text : List ℕ) (from : ℕ) (found : MatchValue) (more : List MatchValue)
+      → IsFirst text from (Some found) → AreAll text found.end more → AreAll text from (found ∷ more)
 
-  -- what it gives, in front of the list from where it then stands, is the list from where it stood
-  pub streamed_first : (m : StreamValue) (all : List MatchValue) (n : StreamValue) (more : List MatchValue)
-      → GoesThrough search text m → Yields GivesStreamed m (map Ok all) n
-      → IsGreedy search.query search.ignore_case text n.offset more
-      → IsGreedy search.query search.ignore_case text m.offset (all ++ more)
-  streamed_first m [] n more stands stays greedy = grind arith
-  streamed_first m (found ∷ rest) n more stands run greedy =
-      let step = run.1 in
-      let rest_is = streamed_first run.0 rest n more (stands_behind m found run.0 stands step) run.2 greedy in
-      grind (arith, common_steps)
+module _ (IsFirst : List ℕ → ℕ → Option MatchValue → Type 0) (Begins : List ℕ → ℕ → ℕ → ℕ → Type 0) (margin : ℕ)
+    (search : SearchValue) (text : List ℕ)
+  where
+    -- behind a match it is in the text still
+    stands_behind : (m : StreamValue) (found : MatchValue) (n : StreamValue)
+        → GoesThrough IsFirst Begins margin search text m → GivesAhead IsFirst Begins margin m (Some (Ok found)) n
+        → GoesThrough IsFirst Begins margin search text n
+    stands_behind m found n stands step =
+        let goes = step.2 in
+        let seen = m.held ++ goes.piece in
+        let k = (found.end - margin) - (m.offset - margin) in
+        let taken = subst (λ (u : Option (List ℕ)). Consumes u n.unread goes.piece) stands.unread
+        goes.reads.consumed in
+        let all = seen_all m.held goes.piece stands.rest n.unread taken in
+        let held : n.held ≡ drop k seen = ap (λ (v : StreamValue). v.held) goes.goes_on in
+        let offset_is : n.offset ≡ found.end = ap (λ (v : StreamValue). v.offset) goes.goes_on in
+        record {
+          before = stands.before ++ take k seen;
+          rest = known n.unread;
+          search_is = ap (λ (v : StreamValue). v.search) goes.goes_on ∙ stands.search_is;
+          unread = all.0;
+          offset =
+              let long = length-take-le k seen (omega (arith, goes.within, goes.some)) in
+              omega (
+                arith,
+                length-append stands.before (take k seen),
+                long,
+                stands.offset,
+                offset_is,
+                goes.some,
+              );
+          whole = rw (
+            held,
+            append_assoc stands.before (take k seen) (drop k seen ++ known n.unread),
+            ← append_assoc (take k seen) (drop k seen) (known n.unread),
+            take-append-drop k seen,
+            all.1,
+          ) stands.whole;
+          not_over = ap (λ (v : StreamValue). v.is_over) goes.goes_on ∙ stands.not_over;
+        }
 
-  -- and where it then stands
-  pub streamed_to : (m : StreamValue) (all : List MatchValue) (n : StreamValue) → GoesThrough search text m
-      → Yields GivesStreamed m (map Ok all) n → GoesThrough search text n
-  streamed_to m [] n stands stays = subst (GoesThrough search text) stays stands
-  streamed_to m (found ∷ rest) n stands run = streamed_to run.0 rest n (stands_behind m found run.0 stands run.1) run.2
+    -- and where it then is
+    pub streamed_to : (m : StreamValue) (all : List MatchValue) (n : StreamValue)
+        → GoesThrough IsFirst Begins margin search text m → Yields (GivesAhead IsFirst Begins margin) m (map Ok all) n
+        → GoesThrough IsFirst Begins margin search text n
+    streamed_to m [] n stands stays = subst (GoesThrough IsFirst Begins margin search text) stays stands
+    streamed_to m (found ∷ rest) n stands run =
+        streamed_to run.0 rest n (stands_behind m found run.0 stands run.1) run.2
 
-  -- up to its first None it is the whole list
-  pub streamed_all : (m : StreamValue) (all : List MatchValue) (n ended : StreamValue) → GoesThrough search text m
-      → Yields GivesStreamed m (map Ok all) n → GivesStreamed n None ended
-      → IsGreedy search.query search.ignore_case text m.offset all
-  streamed_all m all n ended stands run last =
-      let there = streamed_to m all n stands run in
-      let ends = last.1 there.not_over in
-      subst (IsGreedy search.query search.ignore_case text m.offset) (append-nil all)
-      (grind (arith, streamed_first, seen_whole))
+    -- and then all of the text was read
+    pub streamed_len : (m ended : StreamValue) → GoesThrough IsFirst Begins margin search text m
+        → GivesAhead IsFirst Begins margin m None ended → ended.offset ≡ length text
+    streamed_len m ended stands last =
+        let ends = last.1 stands.not_over in
+        let taken = subst (λ (u : Option (List ℕ)). Consumes u ended.unread ends.piece) stands.unread
+        ends.reads.consumed in
+        let all = seen_whole m.held ends.piece stands.rest ended.unread ends.end taken in
+        let offset_is : ended.offset ≡ (m.offset - margin) + length (m.held ++ ends.piece) =
+        ap (λ (v : StreamValue). v.offset) ends.over in
+        let len : length (m.held ++ ends.piece) ≡ length (m.held ++ stands.rest) = ap length all in
+        let whole : length (stands.before ++ (m.held ++ stands.rest)) ≡ length text = ap length stands.whole in
+        omega (arith, offset_is, len, whole, stands.offset, length-append stands.before (m.held ++ stands.rest))
 
-  -- and then all of the text was read
-  pub streamed_len : (m ended : StreamValue) → GoesThrough search text m → GivesStreamed m None ended
-      → ended.offset ≡ length text
-  streamed_len m ended stands last = grind (arith, length-append)
+    -- in front of an error nothing is missing but what begins in the last bytes that were read
+    pub streamed_failed : (m : StreamValue) (error : Error) (ended : StreamValue)
+        → GoesThrough IsFirst Begins margin search text m
+        → GivesAhead IsFirst Begins margin m (Some (Err error)) ended
+        → (i p : ℕ) → Begins text m.offset i p
+        → ended.offset - (longest_of search.query.patterns + margin - 1) ≤ p
+    streamed_failed m error ended stands last i p begins =
+        let ends = last.2 in
+        let taken = subst (λ (u : Option (List ℕ)). Consumes u ended.unread ends.piece) stands.unread
+        ends.reads.consumed in
+        let all = seen_all m.held ends.piece stands.rest ended.unread taken in
+        let whole : text ≡ stands.before ++ ((m.held ++ ends.piece) ++ known ended.unread) =
+        sym (ap (λ l. stands.before ++ l) all.1 ∙ stands.whole) in
+        subst (λ (s : SearchValue). ended.offset - (longest_of s.query.patterns + margin - 1) ≤ p) stands.search_is
+        (ends.nothing (known ended.unread) stands.before stands.offset i p
+        (subst (λ (t : List ℕ). Begins t m.offset i p) whole begins))
 
-  -- in front of an error nothing is missing but what begins in the last bytes that were read
-  pub streamed_failed : (m : StreamValue) (error : Error) (ended : StreamValue) → GoesThrough search text m
-      → GivesStreamed m (Some (Err error)) ended
-      → (i p : ℕ) → Occurs search.query.patterns search.ignore_case text (rest_from text m.offset) i p
-      → ended.offset - (longest_of search.query.patterns - 1) ≤ p
-  streamed_failed m error ended stands last i p occurs =
-      let ends = last.2 in
-      let none = ends.nothing (known ended.unread) stands.before stands.offset i p in
-      let all = seen_all m.held ends.piece stands.rest ended.unread in
-      grind arith
+    module _ (AreAll : List ℕ → ℕ → List MatchValue → Type 0) (over : GoesOverAll IsFirst AreAll) where
+      -- what it gives, in front of the list from where it then is, is the list from where it was
+      pub streamed_first : (m : StreamValue) (all : List MatchValue) (n : StreamValue) (more : List MatchValue)
+          → GoesThrough IsFirst Begins margin search text m
+          → Yields (GivesAhead IsFirst Begins margin) m (map Ok all) n
+          → AreAll text n.offset more → AreAll text m.offset (all ++ more)
+      streamed_first m [] n more stands stays list =
+          subst (λ (v : StreamValue). AreAll text v.offset more) (sym stays) list
+      streamed_first m (found ∷ rest) n more stands run list =
+          let step = run.1 in
+          let goes = step.2 in
+          let taken = subst (λ (u : Option (List ℕ)). Consumes u run.0.unread goes.piece) stands.unread
+          goes.reads.consumed in
+          let all_is = seen_all m.held goes.piece stands.rest run.0.unread taken in
+          let whole : stands.before ++ ((m.held ++ goes.piece) ++ known run.0.unread) ≡ text =
+          ap (λ l. stands.before ++ l) all_is.1 ∙ stands.whole in
+          let offset_is : run.0.offset ≡ found.end = ap (λ (v : StreamValue). v.offset) goes.goes_on in
+          over.some text m.offset found (rest ++ more)
+          (subst (λ (t : List ℕ). IsFirst t m.offset (Some found)) whole (goes.leftmost stands.before stands.offset))
+          (subst (λ (k : ℕ). AreAll text k (rest ++ more)) offset_is
+          (streamed_first run.0 rest n more (stands_behind m found run.0 stands step) run.2 list))
+
+      -- up to its first None it is the whole list
+      pub streamed_all : (m : StreamValue) (all : List MatchValue) (n ended : StreamValue)
+          → GoesThrough IsFirst Begins margin search text m
+          → Yields (GivesAhead IsFirst Begins margin) m (map Ok all) n
+          → GivesAhead IsFirst Begins margin n None ended → AreAll text m.offset all
+      streamed_all m all n ended stands run last =
+          let there = streamed_to m all n stands run in
+          let ends = last.1 there.not_over in
+          let taken = subst (λ (u : Option (List ℕ)). Consumes u ended.unread ends.piece) there.unread
+          ends.reads.consumed in
+          let whole : there.before ++ (n.held ++ ends.piece) ≡ text =
+          ap (λ l. there.before ++ l) (seen_whole n.held ends.piece there.rest ended.unread ends.end taken)
+          ∙ there.whole in
+          subst (AreAll text m.offset) (append-nil all)
+          (streamed_first m all n [] stands run (over.none text n.offset
+          (subst (λ (t : List ℕ). IsFirst t n.offset None) whole (ends.nothing there.before there.offset))))

@@ -16,7 +16,7 @@ use Rattle.literal_search.specs.Inside.WholeWords.{whole_words_value}
 use Rattle.literal_search.specs.Prepared.{IsPrepared}
 use Rattle.literal_search.specs.PreparedWords.{PreparedWordsValue}
 use Rattle.literal_search.specs.SearchValue.{ScansNext, SearchValue}
-use Rattle.literal_search.specs.WholeWords.{AreWholeWords, IsAlone, IsFirstAlone, IsFirstAloneBy, IsLeftmostAloneBy}
+use Rattle.literal_search.specs.WholeWords.{AreWholeWordsBy, IsAlone, IsFirstAlone, IsFirstAloneBy, IsLeftmostAloneBy}
 use Rattle.literal_search.specs.WholeWords.{OccursAloneBy}
 use Rattle.literal_search.specs.WholeWords.{ScansWordsAtMost, WholeWordsValue, is_word_at, is_word_before, most_anew}
 use Rattle.literal_search.specs.WholeWords.{most_at_start}
@@ -257,14 +257,14 @@ alone_or_not word_bytes haystack start end =
       ]
     ]
 
-module _ (words : WholeWordsValue) (haystack : List ℕ) where
+module _ (words : WholeWordsValue) (haystack sides : List ℕ) where
   -- there is a leftmost whole word, or none
-  first_alone : (span : Span) → (answer : Option MatchValue) × IsFirstAlone words haystack span answer
+  first_alone : (span : Span) → (answer : Option MatchValue) × IsFirstAloneBy words haystack sides span answer
   first_alone span =
       let patterns = words.search.query.patterns in
       elim (leftmost_or_none words.search.query words.search.ignore_case haystack span
-      (λ i at. IsAlone words.word_bytes haystack at (at + length (pattern_at patterns i)))
-      (λ i at. alone_or_not words.word_bytes haystack at (at + length (pattern_at patterns i)))) [
+      (λ i at. IsAlone words.word_bytes sides at (at + length (pattern_at patterns i)))
+      (λ i at. alone_or_not words.word_bytes sides at (at + length (pattern_at patterns i)))) [
         | inl none ↦ (None, λ i at o. none i at (o.occurs, o.alone))
         | inr found ↦ (
           Some found.0,
@@ -280,10 +280,10 @@ module _ (words : WholeWordsValue) (haystack : List ℕ) where
   -- and a list of those that do not overlap, if no pattern is empty
   module _ (not_empty : NoneIsEmpty words.search.query.patterns) (end : ℕ) where
     abbrev WordsFrom : ℕ → Type 0
-    WordsFrom at = (all : List MatchValue) × AreWholeWords words haystack (between at end) all
+    WordsFrom at = (all : List MatchValue) × AreWholeWordsBy words haystack sides (between at end) all
 
     words_from : (at : ℕ) → ((to : ℕ) → at < to → WordsFrom to) → (answer : Option MatchValue)
-        → IsFirstAlone words haystack (between at end) answer → WordsFrom at
+        → IsFirstAloneBy words haystack sides (between at end) answer → WordsFrom at
     words_from at later None nothing = ([], nothing)
     words_from at later (Some found) first =
         let some : 0 < length (pattern_at words.search.query.patterns found.pattern) =

@@ -1,36 +1,34 @@
 -- A text that is read in pieces, and written with its matches replaced.
-use Rattle.std.specs.Prelude.{◌≡◌, ⊤, ℕ, ◌≤◌, ◌++◌, [], Bool, true, List, Option, Result, Some, drop}
+use Rattle.std.specs.Prelude.{◌≡◌, ⊤, ℕ, ◌-◌, ◌++◌, [], Bool, true, List, Option, Result, Some, drop}
 use Rattle.std.specs.Borrow.{Bor, MutBor}
 use Rattle.std.specs.Io.KnownBytes.{Consumes}
 use Rattle.std.specs.IoError.{error_kind}
 use Rattle.std.specs.declared.io.Error.{Error}
 use Rattle.std.specs.declared.io.ErrorKind.{ErrorKind}
-use Rattle.literal_base.specs.Greedy.{IsGreedy}
 use Rattle.literal_base.specs.MatchValue.{MatchValue}
 use Rattle.literal_search.specs.ReplacedStream.{AreRewritten}
-use Rattle.literal_search.specs.SearchValue.{SearchValue}
+use Rattle.literal_search.specs.Inside.Stream.{AreMatches, margin_of}
 use Rattle.literal_search.specs.declared.replace_stream.ReplaceStreamError.{ReplaceStreamError}
 use Rattle.literal_search.specs.declared.replace_stream.ReplaceStreamError.TheVariants.{NotOneForEach, OutOfMemory}
 use Rattle.literal_search.specs.declared.replace_stream.ReplaceStreamError.TheVariants.{ReadFailed, WriteFailed}
-use Rattle.literal_search.specs.declared.stream.SoFar.{SoFar}
-use Rattle.literal_search.specs.declared.stream.SoFar.TheVariants.{Found, NoneBefore}
+use Rattle.literal_search.specs.declared.sought.Sought.{Sought}
 
--- a text was read, and its matches before an offset are rewritten by calls; the bytes from there on are held
+-- a text was read, and its matches before an offset are rewritten by calls; the bytes from there on are held, and
+-- those before it that may decide about a match
 module _ {F W : Type 0} (contents : W → Option (List ℕ))
     (step : F → MatchValue → Bor (List ℕ) → MutBor W → Result ⊤ Error → MutBor W → F → Type 0)
   where
-    pub record HasRewritten (search : SearchValue) (is_whole : Bool) (at : ℕ) (ahead : List ℕ)
+    pub record HasRewritten (sought : Sought) (is_whole : Bool) (at : ℕ) (ahead : List ℕ)
         (unread left : Option (List ℕ)) (replace : F) (held : Option (List ℕ)) (now : F) (written : Option (List ℕ))
         : Type 0 where
       pub text : List ℕ
       pub matches : List MatchValue
       pub reads : Consumes unread left text
-      pub ahead_is : ahead ≡ drop at text
+      pub ahead_is : ahead ≡ drop (at - margin_of sought) text
       pub are_rewritten : AreRewritten contents step text matches replace held at written
       pub replace_is : are_rewritten.last.replace ≡ now
       pub come_first : (more : List ℕ) (behind : List MatchValue) → (is_whole ≡ true → more ≡ [])
-          → IsGreedy search.query search.ignore_case (text ++ more) at behind
-          → IsGreedy search.query search.ignore_case (text ++ more) 0 (matches ++ behind)
+          → AreMatches sought (text ++ more) at behind → AreMatches sought (text ++ more) 0 (matches ++ behind)
 
 -- this is the error with which reading or writing failed, by its kind
 abbrev pub IsOfFailure : Option ErrorKind → Option ErrorKind → ReplaceStreamError → Type 0

@@ -1,14 +1,21 @@
 -- The known part of a text that is read in pieces, and what a search finds in it.
 use Rattle.std.specs.Prelude.{◌≡◌, ℕ, ◌+◌, ◌-◌, ◌*◌, ◌<◌, ◌≤◌, ◌^◌, ◌++◌, Bool, false, List, None, Option, Some, drop}
-use Rattle.std.specs.Prelude.{[], IfSome, if◌then◌else◌, length, true}
+use Rattle.std.specs.Prelude.{[], IfSome, if◌then◌else◌, length, max, true}
 use Rattle.std.specs.Io.KnownBytes.{IsAtEnd}
 use Rattle.std.specs.IoError.{error_kind}
 use Rattle.std.specs.List.{slice_range}
 use Rattle.std.specs.Option.{option_map}
+use Rattle.literal_base.specs.Greedy.{IsGreedy}
+use Rattle.literal_base.specs.Leftmost.{IsLeftmost}
 use Rattle.literal_base.specs.MatchValue.{MatchValue}
+use Rattle.literal_base.specs.Occurs.{Occurs, rest_from}
+use Rattle.literal_base.specs.declared.search.Span.{Span}
 use Rattle.literal_search.specs.SearchValue.{SearchValue, longest_of}
 use Rattle.literal_search.specs.Stream.{PassesOver, ReadsPiece, StreamValue}
+use Rattle.literal_search.specs.WholeWords.{AreWordsFrom, IsFirstAlone, OccursAlone}
 use Rattle.literal_search.specs.declared.reading.Reading.{Reading}
+use Rattle.literal_search.specs.declared.sought.Sought.{Sought}
+use Rattle.literal_search.specs.declared.sought.Sought.TheVariants.{Any, Words}
 use Rattle.literal_search.specs.declared.stream.SoFar.{SoFar}
 use Rattle.literal_search.specs.declared.stream.SoFar.TheVariants.{Found, NoneBefore}
 use Rattle.literal_search.specs.declared.window.Window.{Window}
@@ -42,28 +49,83 @@ pub record IsSoundReading (r : Reading) (unread : Option (List ℕ)) : Type 0 wh
   pub apart : r.is_whole ≡ true → r.error ≡ None
   pub failure : r.failure ≡ option_map error_kind r.error
 
--- the same of a search through a window, which has room for more than twice the longest pattern
-pub record IsSoundStream (longest : ℕ) (w : Window) (r : Reading) (unread : Option (List ℕ)) : Type 0 where
+-- the same of a search through a window, which has room for more than twice the bytes that decide about a match
+pub record IsSoundStream (reach : ℕ) (w : Window) (r : Reading) (unread : Option (List ℕ)) : Type 0 where
   pub window : IsWindow w
-  pub room : 2 * longest < length w.bytes.items
+  pub room : 2 * reach < length w.bytes.items
   pub reading : IsSoundReading r unread
 
+-- what is searched for: the leftmost answer in a span
+abbrev pub IsFirstIn : Sought → List ℕ → Span → Option MatchValue → Type 0
+IsFirstIn (Any search) text span = IsLeftmost search.now.query search.now.ignore_case text span
+IsFirstIn (Words words) text span = IsFirstAlone words.now text span
+
+-- what begins in a span
+abbrev pub BeginsIn : Sought → List ℕ → Span → ℕ → ℕ → Type 0
+BeginsIn (Any search) text span = Occurs search.now.query.patterns search.now.ignore_case text span
+BeginsIn (Words words) text span =
+    OccursAlone words.now.search.query.patterns words.now.search.ignore_case words.now.word_bytes text span
+
+-- the leftmost one from an offset on
+abbrev pub IsFirst : Sought → List ℕ → ℕ → Option MatchValue → Type 0
+IsFirst sought text from = IsFirstIn sought text (rest_from text from)
+
+-- what begins from an offset on
+abbrev pub Begins : Sought → List ℕ → ℕ → ℕ → ℕ → Type 0
+Begins sought text from = BeginsIn sought text (rest_from text from)
+
+-- all of them in a text from an offset on, of those that do not overlap
+abbrev pub AreMatches : Sought → List ℕ → ℕ → List MatchValue → Type 0
+AreMatches (Any search) = IsGreedy search.now.query search.now.ignore_case
+AreMatches (Words words) = AreWordsFrom words.now
+
+-- the search of it
+abbrev pub search_of : Sought → SearchValue
+search_of (Any search) = search.now
+search_of (Words words) = words.now.search
+
+-- how many bytes on each side of a match decide whether it counts
+abbrev pub margin_of : Sought → ℕ
+margin_of (Any search) = 0
+margin_of (Words words) = 1
+
+-- how many bytes decide about a match, from its start on
+abbrev pub reach_of : Sought → ℕ
+reach_of sought = longest_of (search_of sought).query.patterns + margin_of sought
+
+-- an answer for a text from an offset on
+abbrev pub Answers : Sought → List ℕ → ℕ → SoFar → Type 0
+Answers sought text from (Found found) = IsFirst sought text from (Some found)
+Answers sought text from (NoneBefore offset) = (i p : ℕ) → Begins sought text from i p → offset ≤ p
+
+-- an answer for the bytes ahead, by its offsets in the text, whatever came before
+abbrev pub AnswersAhead : Sought → ℕ → List ℕ → SoFar → Type 0
+AnswersAhead sought offset ahead answer = (before : List ℕ) → length before ≡ offset - margin_of sought
+    → Answers sought (before ++ ahead) offset answer
+
+-- the held bytes begin so many bytes before the offset at which a search continues, or at the start of the text. They
+-- reach this offset
+pub record AreHeldFrom (margin at : ℕ) (w : Window) : Type 0 where
+  pub begin : w.offset ≡ at - margin
+  pub reach : at ≤ w.offset + length (held w)
+
 -- how many of the last bytes a match may still begin in: none if the text has ended
-abbrev pub kept_back : List (List ℕ) → Bool → ℕ
-kept_back patterns is_whole = if is_whole then 0 else longest_of patterns - 1
+abbrev pub kept_back : ℕ → Bool → ℕ
+kept_back reach is_whole = if is_whole then 0 else reach - 1
 
--- a match lies in `len` bytes and is not empty; an offset is after all of them but those where a match may begin
-abbrev pub IsFirstKnown : List (List ℕ) → Bool → ℕ → SoFar → Type 0
-IsFirstKnown patterns is_whole len (Found found) = (found.start < found.end) × (found.end ≤ len)
-IsFirstKnown patterns is_whole len (NoneBefore offset) = offset ≡ len - kept_back patterns is_whole
+-- a match lies between two offsets and is not empty; an offset is after all bytes between them but those where a match
+-- may begin
+abbrev pub IsFirstKnown : ℕ → Bool → ℕ → ℕ → SoFar → Type 0
+IsFirstKnown reach is_whole at end (Found found) = (at ≤ found.start) × (found.start < found.end) × (found.end ≤ end)
+IsFirstKnown reach is_whole at end (NoneBefore offset) = offset ≡ max at (end - kept_back reach is_whole)
 
--- a search as contracts see it
-abbrev pub stream_value : SearchValue → Window → Reading → Option (List ℕ) → Bool → StreamValue
-stream_value search w r unread is_over = record {
+-- a search that continues at an offset, as contracts see it
+abbrev pub stream_value : SearchValue → Window → ℕ → Reading → Option (List ℕ) → Bool → StreamValue
+stream_value search w at r unread is_over = record {
   search = search;
   held = held w;
   unread = unread;
-  offset = w.offset;
+  offset = at;
   failure = r.failure;
   is_over = is_over;
 }
@@ -72,27 +134,33 @@ stream_value search w r unread is_over = record {
 abbrev pub shifted : ℕ → MatchValue → MatchValue
 shifted base found = record { pattern = found.pattern; start = found.start + base; end = found.end + base }
 
--- the bytes from an offset to a later one were passed over, and the others are held
-pub record HasPassed (search : SearchValue) (from to : ℕ) (seen rest : List ℕ) : Type 0 where
-  pub later : from ≤ to
-  pub within : to - from ≤ length seen
-  pub rest_is : rest ≡ drop (to - from) seen
-  pub passed : (more : List ℕ) → PassesOver search from to (seen ++ more)
+-- the same answer, so many bytes later
+abbrev pub told_later : ℕ → SoFar → SoFar
+told_later base (Found found) = Found (shifted base found)
+told_later base (NoneBefore offset) = NoneBefore (offset + base)
 
--- a search has read a piece and passed over bytes
-pub record HasGoneOn (old new : StreamValue) : Type 0 where
-  pub piece : List ℕ
-  pub search_is : new.search ≡ old.search
-  pub is_over : new.is_over ≡ old.is_over
-  pub reads : ReadsPiece old piece new
-  pub passed : HasPassed old.search old.offset new.offset (old.held ++ piece) new.held
+module _ (IsFirst : List ℕ → ℕ → Option MatchValue → Type 0) (Begins : List ℕ → ℕ → ℕ → ℕ → Type 0) (margin : ℕ) where
+  -- the bytes from an offset to a later one were passed over, and the others are held
+  pub record HasPassed (from to : ℕ) (seen rest : List ℕ) : Type 0 where
+    pub later : from ≤ to
+    pub within : (to - margin) - (from - margin) ≤ length seen
+    pub rest_is : rest ≡ drop ((to - margin) - (from - margin)) seen
+    pub passed : (more : List ℕ) → PassesOver IsFirst Begins margin from to (seen ++ more)
 
--- a search is in this text: the bytes ahead are the text from its offset on
-pub record GoesThrough (search : SearchValue) (text : List ℕ) (m : StreamValue) : Type 0 where
-  pub before : List ℕ
-  pub rest : List ℕ
-  pub search_is : m.search ≡ search
-  pub unread : m.unread ≡ Some rest
-  pub offset : length before ≡ m.offset
-  pub whole : before ++ (m.held ++ rest) ≡ text
-  pub not_over : m.is_over ≡ false
+  -- a search has read a piece and passed over bytes
+  pub record HasGoneOn (old new : StreamValue) : Type 0 where
+    pub piece : List ℕ
+    pub search_is : new.search ≡ old.search
+    pub is_over : new.is_over ≡ old.is_over
+    pub reads : ReadsPiece old piece new
+    pub passed : HasPassed old.offset new.offset (old.held ++ piece) new.held
+
+  -- a search is in this text: the bytes ahead are the text from its offset on
+  pub record GoesThrough (search : SearchValue) (text : List ℕ) (m : StreamValue) : Type 0 where
+    pub before : List ℕ
+    pub rest : List ℕ
+    pub search_is : m.search ≡ search
+    pub unread : m.unread ≡ Some rest
+    pub offset : length before ≡ m.offset - margin
+    pub whole : before ++ (m.held ++ rest) ≡ text
+    pub not_over : m.is_over ≡ false

@@ -22,7 +22,7 @@ returns-clause-same c =
     let is = returns-clause-replaced c in
     let replacement : List ℕ = c.args.replacement.now in (
       is.matches,
-      is.are_greedy,
+      is.are_matches,
       is.is_replaced
-          ∙ replaced_by_patterns c.args.search.now c.args.text.now (λ _. replacement) is.matches is.are_greedy,
+          ∙ replaced_by_patterns c.args.search.now c.args.text.now (λ _. replacement) is.matches is.are_matches,
     )

@@ -1,8 +1,7 @@
 -- A text that is read piece by piece, and written with its matches rewritten.
-use Rattle.std.proofs.Common.{◌≡◌, ℕ, ◌+◌, ◌-◌, ◌≤◌, ◌++◌, [], Bool, IfErr, List, None, Option, Result, arith, drop}
-use Rattle.std.proofs.Common.{eqb-true, false, length, of_calls, refl, subst, sym, true, ◌∙◌}
+use Rattle.std.proofs.Common.{◌≡◌, ℕ, ◌-◌, ◌++◌, [], IfErr, List, None, Option, Result, ap, arith, drop}
+use Rattle.std.proofs.Common.{eqb-true, of_calls, refl, subst, sym, true, ◌∙◌}
 use Rattle.std.proofs.KnownBytes.{Consumes-trans}
-use Rattle.std.proofs.lemmas.Grind.{common_steps}
 use Rattle.std.proofs.lemmas.List.{length-drop}
 use Rattle.std.proofs.lemmas.Option.{none-some}
 use Rattle.std.specs.Bool.{⊤}
@@ -12,31 +11,33 @@ use Rattle.std.specs.Result.{IsErrAnd}
 use Rattle.std.specs.declared.io.Error.{Error}
 use Rattle.std.specs.declared.io.ErrorKind.{ErrorKind}
 use Rattle.literal_base.specs.MatchValue.{MatchValue}
-use Rattle.literal_search.specs.ReplacedStream.{StopsRewritingBy}
-use Rattle.literal_search.specs.SearchValue.{SearchValue}
-use Rattle.literal_search.specs.Inside.Rewriting.{HasRewritten, IsOfFailure}
-use Rattle.literal_search.specs.Inside.Stream.{held}
+use Rattle.literal_search.specs.ReplacedStream.{StopsRewritingOf}
+use Rattle.literal_search.specs.Inside.Rewriting.{IsOfFailure}
+use Rattle.literal_search.specs.Inside.Stream.{AnswersAhead, held, kept_back, margin_of, reach_of}
 use Rattle.literal_search.specs.declared.replace_stream.ReplaceStreamError.{ReplaceStreamError}
+use Rattle.literal_search.specs.declared.stream.SoFar.TheVariants.{NoneBefore}
 use Rattle.literal_search.proofs.lemmas.Rewritten.{all_rewritten, none_rewritten, turn_matched, turn_passed}
 use Rattle.literal_search.proofs.replace_stream.rewrite.Goals.{in-Found+in_ok-put-in-Found+in_ok-after_write-in-Found}
 use Rattle.literal_search.proofs.replace_stream.rewrite.Goals.{in-NoneBefore+in_ok-put-in-NoneBefore}
-use Rattle.literal_search.proofs.lemmas.Streams.{read_in_part, read_whole}
+use Rattle.literal_search.proofs.lemmas.Streams.{read_whole}
 use Rattle.literal_search.proofs.replace_stream.rewrite.Goals as goal
 
 -- a write or a call that fails ends it
 stops_writing : {F W A : Type 0} (contents : W → Option (List ℕ))
-    (step : F → MatchValue → Bor (List ℕ) → MutBor W → Result ⊤ Error → MutBor W → F → Type 0) (search : SearchValue)
-    (replace : F) (unread left held written : Option (List ℕ)) (text : List ℕ) (failure : Option ErrorKind)
+    (step : F → MatchValue → Bor (List ℕ) → MutBor W → Result ⊤ Error → MutBor W → F → Type 0)
+    (AreMatches : List ℕ → ℕ → List MatchValue → Type 0) (reach : ℕ) (replace : F)
+    (unread left held written : Option (List ℕ)) (text : List ℕ) (failure : Option ErrorKind)
     (result : Result A ReplaceStreamError) (error : ReplaceStreamError) → Consumes unread left text
     → IsOfFailure None failure error → IsErrAnd result (λ e. e ≡ error)
-    → IfErr result (StopsRewritingBy contents step search replace unread left held written)
-stops_writing contents step search replace unread left held written text failure result error reads is same =
+    → IfErr result (StopsRewritingOf contents step AreMatches reach replace unread left held written)
+stops_writing contents step AreMatches reach replace unread left held written text failure result error reads is same =
     grind (arith, none-some)
 
 pub loop-is_over-init : goal.loop-is_over-init
 loop-is_over-init g c = record {
   sound = c.requires.sound;
-  rewritten = none_rewritten _ _ _ _ _ _ _ _ _ c.requires.first c.requires.empty;
+  held_from = record { begin = omega (arith, c.requires.first); reach = omega arith };
+  rewritten = none_rewritten _ _ _ _ _ _ _ _ _ refl c.requires.empty;
   callable = c.requires.callable;
   over = λ is. absurd (cc);
 }
@@ -45,7 +46,7 @@ pub returns-in_err-put-in-Found-clause-error : goal.returns-in_err-put-in-Found-
 returns-in_err-put-in-Found-clause-error g c =
     let before = c.loop-is_over.invariant.rewritten in
     let read = c.next_known.ensures.read in
-    stops_writing _ _ _ _ _ _ _ _ (before.text ++ read.0) c.put.new.failure c.from_residual.result _
+    stops_writing _ _ _ _ _ _ _ _ _ (before.text ++ read.0) c.put.new.failure c.from_residual.result _
     (Consumes-trans _ _ _ before.text read.0 before.reads read.1) c.in_err-put-in-Found.ensures.error
     c.from_residual.ensures.1
 
@@ -53,7 +54,7 @@ pub returns-in_err-after_write-in-Found-clause-error : goal.returns-in_err-after
 returns-in_err-after_write-in-Found-clause-error g c =
     let before = c.loop-is_over.invariant.rewritten in
     let read = c.next_known.ensures.read in
-    stops_writing _ _ _ _ _ _ _ _ (before.text ++ read.0) c.after_write.new.failure
+    stops_writing _ _ _ _ _ _ _ _ _ (before.text ++ read.0) c.after_write.new.failure
     c.from_residual-in_err-after_write-in-Found.result _
     (Consumes-trans _ _ _ before.text read.0 before.reads read.1) c.in_err-after_write-in-Found.ensures.error
     c.from_residual-in_err-after_write-in-Found.ensures.1
@@ -62,7 +63,7 @@ pub returns-in_err-put-in-NoneBefore-clause-error : goal.returns-in_err-put-in-N
 returns-in_err-put-in-NoneBefore-clause-error g c =
     let before = c.loop-is_over.invariant.rewritten in
     let read = c.next_known.ensures.read in
-    stops_writing _ _ _ _ _ _ _ _ (before.text ++ read.0) c.put-in-NoneBefore.new.failure
+    stops_writing _ _ _ _ _ _ _ _ _ (before.text ++ read.0) c.put-in-NoneBefore.new.failure
     c.from_residual-in_err-put-in-NoneBefore.result _
     (Consumes-trans _ _ _ before.text read.0 before.reads read.1) c.in_err-put-in-NoneBefore.ensures.error
     c.from_residual-in_err-put-in-NoneBefore.ensures.1
@@ -76,37 +77,49 @@ loop-is_over-preserved g c =
     let is = c.next_known.new.reading.is_whole in
     let still : was ≡ true → (is ≡ true) × (piece ≡ []) = grind arith in
     let v = c.next_known.new.window in
-    let passed = c.pass.ensures in
+    let at = c.loop-is_over.at in
+    let to = c.match-next_known.to in
+    let begin = one.held.begin in
+    let reach = one.held.reach in
+    let margin_is = c.margin.ensures in
+    let rest_is : held c.hold_from.new.self
+    ≡ drop ((to - margin_of c.args.sought) - (at - margin_of c.args.sought)) (held v) =
+    subst (λ (n : ℕ). held c.hold_from.new.self ≡ drop ((to - margin_of c.args.sought) - n) (held v)) begin
+    (subst (λ (n : ℕ). held c.hold_from.new.self ≡ drop ((to - n) - v.offset) (held v)) margin_is
+    c.hold_from.ensures.held) in
     record {
       sound = grind arith;
+      held_from = rw margin_is at c.hold_from.ensures.from;
       rewritten = elim c.match-next_known.branch [
         | in-Found+in_ok-put-in-Found+in_ok-after_write-in-Found w ↦
             let first = w.in-Found.ensures in
-            let some = first.known.0 in
+            let some = first.known.1 in
             let writes = w.in_ok-put-in-Found.ensures.written in
-            let part_is = w.held.ensures in
-            let again_is = w.held-in-Found.ensures in
-            let start_is = w.start.ensures in
-            let end_is = w.end.ensures in
-            let begin_is = w.start-in-Found.ensures in
-            let moved_is = w.offset.ensures in
+            let part_is = w.between.ensures in
+            let again_is = w.between-bytes.ensures in
+            let start_is = w.start.ensures.start in
+            let end_is = w.end.ensures.end in
+            let begin_is = w.start-in-Found.ensures.start in
             let told = w.after_write.ensures.told in
             let done = w.in_ok-after_write-in-Found.was in
-            turn_matched _ _ _ _ _ _ was is c.loop-is_over.window.offset c.pass.new.self.offset
-            (held c.loop-is_over.window) piece (held v) (held c.pass.new.self) _ _ _ _ still consumed seen_is
-            so_far.rewritten w.in-Found.found w.offset.result _ _ _ w.replace-answer.result _ c.match-next_known.replace
-            (g.W.Write.contents c.match-next_known.writer) w.replace-answer.ensures w.replace-is (grind arith)
-            first.known.0 first.known.1 first.answers (grind arith) (grind arith) (grind arith) (grind arith)
-            (grind arith) (grind arith)
+            turn_matched _ _ _ _ _ _ was is at to (held c.loop-is_over.window) piece (held v)
+            (held c.hold_from.new.self) _ _ _ _ still consumed seen_is so_far.rewritten rest_is w.in-Found.found _ _ _
+            w.replace-answer.result _ c.match-next_known.replace
+            (g.W.Write.contents c.match-next_known.writer) (grind arith) w.replace-answer.ensures w.replace-is
+            (grind arith)
+            first.known.0 first.known.1 (omega (arith, first.known.2, begin)) first.answers (grind arith) (grind arith)
+            (grind arith)
         | in-NoneBefore+in_ok-put-in-NoneBefore w ↦
             let none = w.in-NoneBefore.ensures in
             let writes = w.in_ok-put-in-NoneBefore.ensures.written in
-            let part_is = w.held-in-NoneBefore.ensures in
-            turn_passed _ _ _ _ _ _ was is c.loop-is_over.window.offset c.pass.new.self.offset
-            (held c.loop-is_over.window) piece (held v) (held c.pass.new.self) _ _ _ _ still consumed seen_is
-            so_far.rewritten w.in-NoneBefore.offset (g.W.Write.contents c.match-next_known.writer)
-            c.match-next_known.replace w.replace-is (omega (arith, none.known)) none.answers (grind arith) (grind arith)
-            (grind arith)
+            let part_is = w.between-in-NoneBefore.ensures in
+            let to_is : to ≡ w.in-NoneBefore.offset = w.to-is in
+            turn_passed _ _ _ _ _ _ was is at to (held c.loop-is_over.window) piece (held v)
+            (held c.hold_from.new.self) _ _ _ _ still consumed seen_is so_far.rewritten rest_is
+            (g.W.Write.contents c.match-next_known.writer) c.match-next_known.replace w.replace-is
+            (omega (arith, none.known, to_is)) (omega (arith, none.known, to_is, begin, reach))
+            (subst (λ (n : ℕ). (more : List ℕ) → (is ≡ true → more ≡ [])
+            → AnswersAhead c.args.sought at (held v ++ more) (NoneBefore n)) (sym to_is) none.answers) (grind arith)
       ];
       callable = search of_calls;
       over = grind (arith, eqb-true, length-drop);
@@ -120,5 +133,7 @@ returns-clause-ok g c =
     let over = so_far.over c.loop-is_over-test.false in
     let whole = read_whole s.is_whole s.failure s.error reading.failure over.0
     (sym c.take_error.ensures.failure ∙ c.in-None.ensures.error) in
-    all_rewritten _ _ _ _ _ _ s.is_whole _ (held c.loop-is_over.window) _ _ _ whole (grind arith) over.2
+    let begin = so_far.held_from.begin in
+    all_rewritten _ _ _ _ _ _ s.is_whole c.loop-is_over.at (held c.loop-is_over.window) _ _ _ whole
+    (omega (arith, over.1, begin, ap (kept_back (reach_of c.args.sought)) whole)) over.2
     (reading.whole whole) so_far.rewritten

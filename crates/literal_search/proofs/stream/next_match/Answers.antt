@@ -1,56 +1,89 @@
-use Rattle.std.proofs.Common.{◌≡◌, ◌-◌, ◌≤◌, ◌∙◌, [], List, ℕ, None, Some, ap, arith, drop, false, length, refl}
-use Rattle.std.proofs.Common.{sym, true}
+use Rattle.std.proofs.Common.{◌≡◌, ◌+◌, ◌-◌, ◌≤◌, ◌++◌, ◌∙◌, [], List, ℕ, None, Some, ap, append-nil, arith, drop}
+use Rattle.std.proofs.Common.{false, length, length-append, refl, subst, sym, true}
 use Rattle.std.proofs.Math.Seq.{drop-length}
 use Rattle.std.specs.IoError.{error_kind}
 use Rattle.literal_search.specs.SearchValue.{longest_of}
 use Rattle.literal_search.specs.Stream.{known}
-use Rattle.literal_search.specs.Inside.Stream.{held, kept_back, stream_value}
+use Rattle.literal_search.specs.Inside.Stream.{Begins, IsFirst, held, kept_back, margin_of, reach_of, search_of}
+use Rattle.literal_search.specs.Inside.Stream.{stream_value}
+use Rattle.literal_search.proofs.lemmas.Sought.{goes_from, nothing_last}
 use Rattle.literal_search.proofs.lemmas.Streams.{ends_failed, ends_whole, goes_behind, gone_nowhere, gone_on, gone_past}
-use Rattle.literal_search.proofs.lemmas.Streams.{held_fits, known_end, nothing_last, read_in_part, read_whole}
+use Rattle.literal_search.proofs.lemmas.Streams.{held_fits, known_end, read_in_part, read_whole}
 use Rattle.literal_search.proofs.stream.next_match.Goals as goal
 
 pub loop-found-init : goal.loop-found-init
-loop-found-init g c = grind (arith, gone_nowhere)
+loop-found-init g c = record {
+  sound = c.requires.sound;
+  held = c.requires.held;
+  gone = gone_nowhere (IsFirst c.args.sought) (Begins c.args.sought) (margin_of c.args.sought)
+      (goes_from c.args.sought) _;
+}
 
 pub returns-in-Found-clause-gives : goal.returns-in-Found-clause-gives
 returns-in-Found-clause-gives g c =
-    let search = c.args.search.now in
-    let old = stream_value search c.args.window.now c.args.reading.now (g.R.Read.remaining c.args.reader.now) false in
+    let sought = c.args.sought in
+    let margin = margin_of sought in
+    let search = search_of sought in
+    let at = c.loop-found.at in
+    let old = stream_value search c.args.window.now c.args.at.now c.args.reading.now
+    (g.R.Read.remaining c.args.reader.now) false in
     let before = c.loop-found.invariant in
     let v = c.next_known.new.window in
     let s = c.next_known.new.reading in
     let left = g.R.Read.remaining c.next_known.new.reader in
     let one = c.in-Found.ensures in
-    goes_behind old (stream_value search v s left false) (stream_value search c.take.new.window s left false)
-    c.in-Found.found c.take.result
+    let found = c.in-Found.found in
+    let margin_is = c.margin.ensures in
+    let held_is = c.hold_from.ensures.held in
+    let end_is = c.end.ensures.end in
+    let begin = one.held.begin in
+    goes_behind (IsFirst sought) (Begins sought) margin (goes_from sought) old (stream_value search v at s left false)
+    (stream_value search c.hold_from.new.self c.end.result s left false)
+    (gone_on (IsFirst sought) (Begins sought) margin (goes_from sought) old search c.loop-found.window v at
+    c.loop-found.reading s _ left before.sound.reading one.read before.gone) found
     (one.answers (known left) (λ is. known_end left (one.sound.reading.whole is)))
-    one.known.0 one.known.1 (held_fits v one.sound.window) c.take.ensures.found (cc)
-    (gone_on old search c.loop-found.window v c.loop-found.reading s _ left before.sound.reading one.offset one.read
-    before.gone)
+    (omega (arith, one.known.0, one.known.1)) (omega (arith, one.known.2, begin))
+    (omega (arith, one.known.2, held_fits v one.sound.window)) (cc)
 
 pub loop-found-preserved : goal.loop-found-preserved
 loop-found-preserved g c =
-    let search = c.args.search.now in
-    let old = stream_value search c.args.window.now c.args.reading.now (g.R.Read.remaining c.args.reader.now) false in
+    let sought = c.args.sought in
+    let margin = margin_of sought in
+    let search = search_of sought in
+    let at = c.loop-found.at in
+    let old = stream_value search c.args.window.now c.args.at.now c.args.reading.now
+    (g.R.Read.remaining c.args.reader.now) false in
     let before = c.loop-found.invariant in
     let v = c.next_known.new.window in
     let s = c.next_known.new.reading in
     let left = g.R.Read.remaining c.next_known.new.reader in
     let one = c.in-NoneBefore.ensures in
+    let offset = c.in-NoneBefore.offset in
     let in_part = (c.if-is_open.ensures.0 refl).0 in
+    let margin_is = c.margin-in-NoneBefore.ensures in
+    let held_is = c.hold_from-in-NoneBefore.ensures.held in
+    let begin = one.held.begin in
+    let reach = one.held.reach in
     record {
       sound = grind arith;
-      gone = gone_past old (stream_value search v s left false)
-          (stream_value search c.pass.new.self s left false) c.in-NoneBefore.offset
-          (omega (arith, one.known)) (λ more. one.answers more (λ is. absurd (cc))) (cc)
-          (gone_on old search c.loop-found.window v c.loop-found.reading s _ left before.sound.reading one.offset
-          one.read before.gone);
+      held = rw margin_is at c.hold_from-in-NoneBefore.ensures.from;
+      gone = gone_past (IsFirst sought) (Begins sought) margin (goes_from sought) old
+          (stream_value search v at s left false)
+          (stream_value search c.hold_from-in-NoneBefore.new.self offset s left false) offset
+          (omega (arith, one.known)) (omega (arith, one.known, begin, reach))
+          (λ more. one.answers more (λ is. absurd (cc))) (cc)
+          (gone_on (IsFirst sought) (Begins sought) margin (goes_from sought) old search c.loop-found.window v at
+          c.loop-found.reading s _ left before.sound.reading one.read before.gone);
     }
 
 pub returns-in-Some-clause-gives : goal.returns-in-Some-clause-gives
 returns-in-Some-clause-gives g c =
-    let search = c.args.search.now in
-    let old = stream_value search c.args.window.now c.args.reading.now (g.R.Read.remaining c.args.reader.now) false in
+    let sought = c.args.sought in
+    let margin = margin_of sought in
+    let search = search_of sought in
+    let at = c.loop-found.at in
+    let old = stream_value search c.args.window.now c.args.at.now c.args.reading.now
+    (g.R.Read.remaining c.args.reader.now) false in
     let before = c.loop-found.invariant in
     let v = c.next_known.new.window in
     let s = c.next_known.new.reading in
@@ -60,20 +93,30 @@ returns-in-Some-clause-gives g c =
     let failed : s.failure ≡ Some (error_kind c.in-Some.error) = sym failure ∙ c.in-Some.ensures.error in
     let in_part = read_in_part s.is_whole s.failure s.error (error_kind c.in-Some.error) one.sound.reading.failure
     one.sound.reading.apart failed in
-    let behind : held c.pass-in-NoneBefore-2.new.self ≡ [] = c.pass-in-NoneBefore-2.ensures.held
+    let behind : held c.pass.new.self ≡ [] = c.pass.ensures.held
     ∙ (ap (λ (l : List ℕ). drop (length l) (held v)) c.held.ensures ∙ drop-length (held v)) in
-    let far : length (held v) - (longest_of search.query.patterns - 1) ≤ c.in-NoneBefore-2.field-0 =
-    omega (arith, one.known, ap (kept_back search.query.patterns) in_part) in
-    ends_failed old (stream_value search v s left false)
-    (stream_value search c.pass-in-NoneBefore-2.new.self c.take_error.new.self left true) c.in-Some.error failed
-    (λ more i p occurs. omega (arith, far, one.answers more (λ is. absurd (cc)) i p occurs)) (cc)
-    (gone_on old search c.loop-found.window v c.loop-found.reading s _ left before.sound.reading one.offset one.read
-    before.gone)
+    let len = ap (λ (l : List ℕ). length l) c.held.ensures in
+    let begin = one.held.begin in
+    let offset_is : c.pass.new.self.offset ≡ (at - margin) + length (held v) =
+    omega (arith, c.pass.ensures.offset, begin, len) in
+    let far : (at - margin) + length (held v) - (longest_of search.query.patterns + margin - 1)
+    ≤ c.in-NoneBefore-2.field-0 =
+    omega (arith, one.known, begin, ap (kept_back (reach_of sought)) in_part) in
+    ends_failed (IsFirst sought) (Begins sought) margin (goes_from sought) old (stream_value search v at s left false)
+    (stream_value search c.pass.new.self c.pass.new.self.offset c.take_error.new.self left true)
+    (gone_on (IsFirst sought) (Begins sought) margin (goes_from sought) old search c.loop-found.window v at
+    c.loop-found.reading s _ left before.sound.reading one.read before.gone) c.in-Some.error failed
+    (λ more prefix is i p begins.
+    omega (arith, far, one.answers more (λ over. absurd (cc)) prefix is i p begins)) (cc)
 
 pub returns-in-None-clause-gives : goal.returns-in-None-clause-gives
 returns-in-None-clause-gives g c =
-    let search = c.args.search.now in
-    let old = stream_value search c.args.window.now c.args.reading.now (g.R.Read.remaining c.args.reader.now) false in
+    let sought = c.args.sought in
+    let margin = margin_of sought in
+    let search = search_of sought in
+    let at = c.loop-found.at in
+    let old = stream_value search c.args.window.now c.args.at.now c.args.reading.now
+    (g.R.Read.remaining c.args.reader.now) false in
     let before = c.loop-found.invariant in
     let v = c.next_known.new.window in
     let s = c.next_known.new.reading in
@@ -83,14 +126,24 @@ returns-in-None-clause-gives g c =
     let none : s.failure ≡ None = sym failure ∙ c.in-None.ensures.error in
     let whole = read_whole s.is_whole s.failure s.error one.sound.reading.failure
     (λ more. let is : false ≡ true = c.if-is_open.ensures.1 more in (cc)) none in
-    let behind : held c.pass-in-NoneBefore-2.new.self ≡ [] = c.pass-in-NoneBefore-2.ensures.held
+    let behind : held c.pass.new.self ≡ [] = c.pass.ensures.held
     ∙ (ap (λ (l : List ℕ). drop (length l) (held v)) c.held.ensures ∙ drop-length (held v)) in
-    let far : length (held v) ≤ c.in-NoneBefore-2.field-0 =
-    omega (arith, one.known, ap (kept_back search.query.patterns) whole) in
-    ends_whole old (stream_value search v s left false)
-    (stream_value search c.pass-in-NoneBefore-2.new.self c.take_error.new.self left true)
-    (one.sound.reading.whole whole) none
-    (nothing_last search.query.patterns search.ignore_case (held v) one.not_empty
-    (λ i p occurs. omega (arith, far, one.answers [] (λ is. refl) i p occurs))) (cc)
-    (gone_on old search c.loop-found.window v c.loop-found.reading s _ left before.sound.reading one.offset one.read
-    before.gone)
+    let len = ap (λ (l : List ℕ). length l) c.held.ensures in
+    let begin = one.held.begin in
+    let offset_is : c.pass.new.self.offset ≡ (at - margin) + length (held v) =
+    omega (arith, c.pass.ensures.offset, begin, len) in
+    let far : (at - margin) + length (held v) ≤ c.in-NoneBefore-2.field-0 =
+    omega (arith, one.known, begin, ap (kept_back (reach_of sought)) whole) in
+    ends_whole (IsFirst sought) (Begins sought) margin (goes_from sought) old (stream_value search v at s left false)
+    (stream_value search c.pass.new.self c.pass.new.self.offset c.take_error.new.self left true)
+    (gone_on (IsFirst sought) (Begins sought) margin (goes_from sought) old search c.loop-found.window v at
+    c.loop-found.reading s _ left before.sound.reading one.read before.gone) (one.sound.reading.whole whole) none
+    (λ prefix is. nothing_last sought (prefix ++ held v) at one.not_empty (λ i p begins.
+    omega (
+      arith,
+      far,
+      is,
+      length-append prefix (held v),
+      one.answers [] (λ over. refl) prefix is i p
+          (subst (λ (l : List ℕ). Begins sought (prefix ++ l) at i p) (sym (append-nil (held v))) begins),
+    ))) (cc)

@@ -27,7 +27,8 @@ returns-clause-ok g c =
       matches = c.loop-found.yielded;
       are_words = subst (AreWholeWords c.args.self.now c.args.haystack.now (whole_of c.args.haystack.now))
           (append-nil c.loop-found.yielded) (so_far.so_far.goes_on _
-          (word_at so_far.words_is so_far.haystack_is so_far.span_is so_far.at_is c.in-None.ensures.steps));
+          (word_at so_far.words_is so_far.haystack_is so_far.haystack_is so_far.span_is so_far.at_is
+          c.in-None.ensures.steps));
       first = so_far.first;
       last = record { writer = c.loop-found.write; text = c.loop-found.text; at = c.loop-found.at };
       begins = so_far.begins;
@@ -40,7 +41,7 @@ loop-found-preserved g c =
     let so_far = c.loop-found.invariant in
     let found = c.in-Some.found in
     let step = c.in-Some.ensures.steps in
-    let first = word_at so_far.words_is so_far.haystack_is so_far.span_is so_far.at_is step in
+    let first = word_at so_far.words_is so_far.haystack_is so_far.haystack_is so_far.span_is so_far.at_is step in
     record {
       words_is = ap (λ (m : WholeWordMatchesValue). m.words) step.goes_on ∙ so_far.words_is;
       haystack_is = ap (λ (m : WholeWordMatchesValue). m.haystack) step.goes_on ∙ so_far.haystack_is;

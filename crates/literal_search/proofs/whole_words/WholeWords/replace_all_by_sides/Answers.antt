@@ -2,7 +2,7 @@ use Rattle.std.proofs.Common.{◌∙◌, ap, arith, rules}
 use Rattle.std.specs.List.{slice_range}
 use Rattle.literal_search.proofs.lemmas.Replaced.{replacement_at}
 use Rattle.literal_search.proofs.lemmas.ReplacedWords.{word_refused, word_refused_behind, word_written, words_written}
-use Rattle.literal_search.proofs.whole_words.WholeWords.replace_all.Goals as goal
+use Rattle.literal_search.proofs.whole_words.WholeWords.replace_all_by_sides.Goals as goal
 
 pub returns-in_err-extend_from_slice-clause-error : goal.returns-in_err-extend_from_slice-clause-error
 returns-in_err-extend_from_slice-clause-error c =

@@ -1,0 +1,86 @@
+//! Whole words in texts that are read in pieces.
+ghost use Rattle.std.specs.Prelude.{◌≡◌, IfOk};
+ghost use Rattle.literal_search.specs.Stream.{word_stream_of};
+
+use crate::WholeWords;
+use crate::sought::Sought;
+use crate::stream::Stream;
+use literal_base::Match;
+use std::alloc::{AllocError, Global};
+use std::io::{self, Read};
+use std::marker::Model;
+
+impl WholeWords {
+    /// Returns an iterator over all whole words in the text that a reader gives. They are those of
+    /// [`WholeWords::find_iter`] in the whole text, with offsets in the whole text, whatever pieces it comes in. The
+    /// buffer has two bytes more than that of [`Search::find_stream`](crate::Search::find_stream). A word is given once
+    /// twice the longest pattern's length and two bytes are read from where the search continues, or the text has
+    /// ended. If reading fails, all words that are known from the bytes read come before the error. A word at their end
+    /// is not known, since a word byte may follow.
+    ///
+    /// ```rust
+    /// let words = [b"new york".as_slice(), b"york"];
+    /// let set = WholeWords::ascii_word_bytes();
+    /// let search = WholeWords::new(alloc, MatchKind::LeftmostFirst, true, set, words)?;
+    /// let mut matches = search.find_stream(alloc, b"Yorkers, York".as_slice())?;
+    /// let found = matches.next().ok_or("nothing is found")??;
+    /// assert!(rt; found.pattern().as_usize() == 1 && found.range() == (9..13));
+    /// ```
+    pub fn find_stream<R: Read + Drop>(
+        &self,
+        alloc: Global,
+        reader: R,
+    ) -> Result<WholeWordStreamMatches<'_, R>, AllocError>
+        ensures { IfOk result (λ m. m ≡ word_stream_of self.now (R.remaining reader)) }
+    {
+        let stream = Stream::new(alloc, Sought::Words(self), reader)?;
+        Ok(WholeWordStreamMatches {
+            words: self,
+            stream,
+        })
+    }
+}
+
+/// The iterator of [`WholeWords::find_stream`]. Contracts see what they see of a
+/// [`StreamMatches`](crate::StreamMatches), and the word bytes. After its first `None` or error it is past all bytes
+/// read, always answers `None`, and stays unchanged.
+#[derive(Drop)]
+pub struct WholeWordStreamMatches<'s, R: Read + Drop> {
+    words: &'s WholeWords,
+    stream: Stream<R>,
+}
+
+impl<'s, R: Read + Drop> Model for WholeWordStreamMatches<'s, R> {
+    ghost use Rattle.std.specs.Prelude.{◌≡◌, false};
+    ghost use Rattle.literal_search.specs.Stream.{WordStreamValue};
+    ghost use Rattle.literal_search.specs.Inside.Stream.{AreHeldFrom, IsSoundStream, reach_of, stream_value};
+    ghost use Rattle.literal_search.specs.declared.sought.Sought.TheVariants.{Words};
+
+    ghost Value = { WordStreamValue };
+
+    ghost view = { λ m. record {
+      stream = stream_value m.words.now.search m.stream.window m.stream.at m.stream.reading
+          (R.remaining m.stream.reader) m.stream.is_over;
+      word_bytes = m.words.now.word_bytes;
+    } };
+
+    ghost invariant = { λ m. m.stream.is_over ≡ false
+        → IsSoundStream (reach_of (Words m.words)) m.stream.window m.stream.reading (R.remaining m.stream.reader)
+        × AreHeldFrom 1 m.stream.at m.stream.window };
+}
+
+impl<'s, R: Read + Drop> Iterator for WholeWordStreamMatches<'s, R> {
+    ghost use Rattle.literal_search.specs.Stream.{GivesWordStreamed, most_words_streamed};
+
+    type Item = io::Result<Match>;
+
+    ghost next_gives = { GivesWordStreamed };
+
+    ghost remaining = { most_words_streamed };
+
+    /// An error comes only after every whole word that is known from the bytes read. It is the error of the reader, or
+    /// [`io::ErrorKind::FileTooLarge`] if a `usize` cannot count more of the text.
+    fn next(&mut self) -> Option<io::Result<Match>> {
+        self.stream.next(Sought::Words(self.words))
+    }
+}
