@@ -70,11 +70,11 @@ impl Leftmost {
         Some(self.named(found))
     }
 
-    /// The first matches in a span, up to the room.
-    pub fn page(&self, haystack: &[u8], span: Span, room: &mut [Match]) -> Page {
-        let page = self.prepared.page(haystack, span, room);
+    /// Lists the first matches in a span, at most so many, in place of what was in the list.
+    pub fn page(&self, haystack: &[u8], span: Span, most: usize, found: &mut Vec<Match>) -> Page {
+        let page = self.prepared.page(haystack, span, most, found);
         if !self.numbers.is_empty() {
-            for found in &mut room[..page.written] {
+            for found in found {
                 *found = self.named(*found);
             }
         }

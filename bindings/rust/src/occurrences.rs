@@ -1,13 +1,16 @@
 //! Every occurrence, one after another.
-use crate::iterators::Room;
-use crate::library::{Page, Prepared};
+use crate::library::{Page, Prepared, FEW};
 use crate::{Input, Match, Span};
+use alloc::vec::Vec;
 use core::fmt;
 use core::iter::FusedIterator;
 
 /// The length of the parts that are searched, first and later.
 const FIRST_PART: usize = 256;
-const PART: usize = 4096;
+const PART: usize = 1 << 16;
+
+/// How many occurrences a page has at most, after the first one.
+const MANY: usize = 256;
 
 /// Where every occurrence is searched for: an array for that, and the length of the longest pattern.
 #[derive(Clone, Copy)]
@@ -87,8 +90,10 @@ struct Walk {
     /// Occurrences that end up to here are found: they are in the room, or were given before.
     reached: usize,
     part: usize,
-    room: Room,
-    written: usize,
+    /// How many occurrences the next page has at most.
+    most: usize,
+    page: Vec<Match>,
+    /// Those of the page up to here were given, or end in an earlier part.
     given: usize,
 }
 
@@ -99,19 +104,19 @@ impl Walk {
         if is_anchored {
             span.end = span.end.min(span.start.saturating_add(every.longest));
         }
-        Walk { span, is_anchored, reached: span.start, part: FIRST_PART, room: Room::new(), written: 0, given: 0 }
+        Walk { span, is_anchored, reached: span.start, part: FIRST_PART, most: FEW, page: Vec::new(), given: 0 }
     }
 
     #[inline]
     fn next(&mut self, every: Every<'_>, haystack: &[u8]) -> Option<Match> {
         loop {
-            while self.given == self.written {
+            while self.given == self.page.len() {
                 if self.reached == self.span.end {
                     return None;
                 }
                 self.turn(every, haystack);
             }
-            let found = self.room.places()[self.given];
+            let found = self.page[self.given];
             self.given += 1;
             if !self.is_anchored || found.start() == self.span.start {
                 return Some(found);
@@ -121,19 +126,18 @@ impl Walk {
 
     /// Finds the occurrences that end in the next part, or in as much of it as a page has room for.
     fn turn(&mut self, every: Every<'_>, haystack: &[u8]) {
-        if self.written > 0 && !self.room.is_allocated() {
-            self.room.grow();
-        }
         let start = (self.reached + 1).saturating_sub(every.longest.max(1)).max(self.span.start);
         let end = self.reached.saturating_add(self.part).min(self.span.end);
         let page = self.fill(every, haystack, Span { start, end });
-        let found = &mut self.room.places()[..page.written];
-        put_longest_first(found);
-        self.given = found.partition_point(|it| it.end() <= self.reached);
+        put_longest_first(&mut self.page);
+        self.given = self.page.partition_point(|it| it.end() <= self.reached);
         // (more than the page has may end where its last one does)
         self.reached = if page.is_last == 1 { end } else { page.next - 1 };
-        self.written = found.partition_point(|it| it.end() <= self.reached);
+        self.page.truncate(self.page.partition_point(|it| it.end() <= self.reached));
         self.part = (2 * self.part).min(PART.max(every.longest.saturating_mul(4)));
+        if page.is_last == 0 {
+            self.most = self.most.max(MANY);
+        }
     }
 
     /// Finds a page of occurrences in a span. It grows until it has all, or goes farther beyond `reached` than the span
@@ -141,11 +145,11 @@ impl Walk {
     fn fill(&mut self, every: Every<'_>, haystack: &[u8], span: Span) -> Page {
         let least = 2 * self.reached - span.start;
         loop {
-            let page = every.prepared.overlapping_page(haystack, span, self.room.places());
+            let page = every.prepared.overlapping_page(haystack, span, self.most, &mut self.page);
             if page.is_last == 1 || least + 1 < page.next {
                 return page;
             }
-            self.room.grow();
+            self.most = MANY.max(2 * self.most);
         }
     }
 }

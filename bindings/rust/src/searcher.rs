@@ -32,8 +32,8 @@ pub(crate) struct Parts {
     pub shortest: usize,
     pub longest: usize,
     pub leftmost: Leftmost,
-    /// Whether an iteration picks its matches from every occurrence, by the standard kind alone.
-    pub is_picked: bool,
+    /// Whether iterations without flags list pages of matches, since no pattern is long.
+    pub is_paged: bool,
     /// The patterns, of which `every` is built; or their lengths alone, if it is never built.
     pub pieces: Pieces,
     /// The array for every occurrence. By a leftmost kind matches of long patterns may be picked from them.
@@ -113,7 +113,11 @@ impl AhoCorasick {
     /// ```
     #[inline]
     pub fn find<'h, I: Into<Input<'h>>>(&self, input: I) -> Option<Match> {
-        done(self.try_find(input))
+        let input = input.into();
+        if self.is_plain(&input) {
+            return self.parts.leftmost.find(input.haystack(), input.searched());
+        }
+        done(self.try_find_by_flags(&input))
     }
 
     /// Like [`AhoCorasick::find`].
@@ -134,16 +138,18 @@ impl AhoCorasick {
     #[inline]
     pub fn try_find<'h, I: Into<Input<'h>>>(&self, input: I) -> Result<Option<Match>, MatchError> {
         let input = input.into();
-        self.check(input.get_anchored())?;
-        Ok(self.search(&input))
+        if self.is_plain(&input) {
+            return Ok(self.parts.leftmost.find(input.haystack(), input.searched()));
+        }
+        self.try_find_by_flags(&input)
     }
 
     /// All matches that do not overlap: first that of [`AhoCorasick::find`], and then the first after each match.
     ///
-    /// It allocates room for at most 1,024 matches, and none if there are few. By a leftmost kind with a pattern of more
-    /// than 1,024 bytes, it picks matches that lie close together from every occurrence. That may allocate 48 bytes for
-    /// each byte of the longest pattern, the room of [`AhoCorasick::find_overlapping_iter`], and the first time the array
-    /// for every occurrence. If memory for the bytes of the pattern or for the array is refused, it goes on without.
+    /// It allocates room for at most 1,024 matches, and none before the third one. By a leftmost kind with a pattern of
+    /// more than 1,024 bytes, it picks matches that lie close together from every occurrence. That may allocate 48 bytes
+    /// for each byte of the longest pattern, the room of [`AhoCorasick::find_overlapping_iter`], and the first time the
+    /// array for every occurrence. If memory for the bytes of the pattern or for the array is refused, it goes on without.
     ///
     /// # Panics
     ///
@@ -160,8 +166,10 @@ impl AhoCorasick {
     #[inline]
     pub fn find_iter<'a, 'h, I: Into<Input<'h>>>(&'a self, input: I) -> FindIter<'a, 'h> {
         let input = input.into();
-        done(self.check(input.get_anchored()));
-        self.matches(input)
+        if self.is_plain(&input) && self.parts.is_paged {
+            return FindIter::pages(&self.parts.leftmost, input.haystack(), input.searched());
+        }
+        done(self.try_matches(input))
     }
 
     /// Like [`AhoCorasick::find_iter`].
@@ -172,25 +180,22 @@ impl AhoCorasick {
     #[inline]
     pub fn try_find_iter<'a, 'h, I: Into<Input<'h>>>(&'a self, input: I) -> Result<FindIter<'a, 'h>, MatchError> {
         let input = input.into();
-        self.check(input.get_anchored())?;
-        Ok(self.matches(input))
+        if self.is_plain(&input) && self.parts.is_paged {
+            return Ok(FindIter::pages(&self.parts.leftmost, input.haystack(), input.searched()));
+        }
+        self.try_matches(input)
     }
 
-    /// All matches that do not overlap, in an input that was checked.
-    #[inline]
-    fn matches<'a, 'h>(&'a self, input: Input<'h>) -> FindIter<'a, 'h> {
-        if !self.is_plain(&input) {
+    /// All matches that do not overlap, where some flag is set or a pattern is long.
+    fn try_matches<'a, 'h>(&'a self, input: Input<'h>) -> Result<FindIter<'a, 'h>, MatchError> {
+        self.check(input.get_anchored())?;
+        Ok(if !self.is_plain(&input) {
             FindIter::one_by_one(self, input)
-        } else if self.parts.is_picked {
-            // (the builder built the array)
-            FindIter::picked(FindOverlappingIter::new(done(self.every()), &input))
+        } else if self.parts.kind == MatchKind::Standard {
+            FindIter::picked(FindOverlappingIter::new(self.every()?, &input))
         } else {
-            let pages = FindIter::pages(&self.parts.leftmost, input.haystack(), input.searched());
-            if self.parts.leftmost.is_fast() {
-                return pages;
-            }
-            FindIter::long(self, pages)
-        }
+            FindIter::long(self, &self.parts.leftmost, input.haystack(), input.searched())
+        })
     }
 
     /// In how many bytes so many matches lie so close together that it takes less to pick them from every occurrence, of
@@ -207,9 +212,9 @@ impl AhoCorasick {
     /// Every occurrence, also overlapping and nested ones: ordered by ends, at one end the longest first, and of equal
     /// patterns the first in the list.
     ///
-    /// It allocates once, for 64 matches, and not at all if there are few; or for more, if more occur within twice the
-    /// length of the longest pattern. The first search for every occurrence builds a second array, if the builder did
-    /// not. It is about as large as the first one, and takes as much time.
+    /// It allocates room for at most 256 matches, and none before the first one; or for more, if more occur within twice
+    /// the length of the longest pattern. The first search for every occurrence builds a second array, if the builder
+    /// did not. It is about as large as the first one, and takes as much time.
     ///
     /// # Panics
     ///
@@ -302,25 +307,22 @@ impl AhoCorasick {
         }
     }
 
-    /// Whether the match is the one that `leftmost` finds.
+    /// Whether the search is made, and its match is the one that `leftmost` finds.
     #[inline]
     fn is_plain(&self, input: &Input<'_>) -> bool {
         let is_earliest = input.get_earliest() && self.parts.kind != MatchKind::Standard;
-        !is_earliest && !input.get_anchored().is_anchored()
+        !is_earliest && !input.get_anchored().is_anchored() && self.parts.start_kind != StartKind::Anchored
     }
 
-    /// The first match of an input that was checked.
-    #[inline]
-    pub(crate) fn search(&self, input: &Input<'_>) -> Option<Match> {
-        if self.is_plain(input) {
-            self.parts.leftmost.find(input.haystack(), input.searched())
-        } else {
-            self.search_by_flags(input)
-        }
+    /// The first match, where that is not so.
+    fn try_find_by_flags(&self, input: &Input<'_>) -> Result<Option<Match>, MatchError> {
+        self.check(input.get_anchored())?;
+        Ok(self.search_by_flags(input))
     }
 
-    /// The same if it is anchored, or a leftmost kind is to find the earliest match.
-    fn search_by_flags(&self, input: &Input<'_>) -> Option<Match> {
+    /// The first match of an input that was checked, which is anchored, or for which a leftmost kind is to find the
+    /// earliest match.
+    pub(crate) fn search_by_flags(&self, input: &Input<'_>) -> Option<Match> {
         let (mut span, is_anchored) = (input.searched(), input.get_anchored().is_anchored());
         if self.parts.kind == MatchKind::Standard {
             return FindOverlappingIter::new(done(self.every()), input).next();
@@ -372,12 +374,10 @@ impl AhoCorasick {
             return self.parts.leftmost.find_so_far(haystack, at, more, room);
         }
         let rest = Input::new(haystack).range(at..);
-        if self.parts.is_picked {
+        if !self.parts.is_paged {
             room.extend(self.find_iter(rest).take(MOST));
         } else {
-            room.resize(MOST, Match::ZERO);
-            let page = self.parts.leftmost.page(haystack, rest.searched(), room);
-            room.truncate(page.written);
+            self.parts.leftmost.page(haystack, rest.searched(), MOST, room);
         }
         // (what ends first does so whatever follows)
         let known = room.last().map_or(at, |it| it.end());
