@@ -1,4 +1,5 @@
 //! Matches that do not overlap, one after another.
+use crate::adjacent::Adjacent;
 use crate::leftmost::Leftmost;
 use crate::library::FEW;
 use crate::picking::Picking;
@@ -26,7 +27,9 @@ enum Way<'a, 'h> {
     Pages(Pages<'a, 'h>),
     /// By a leftmost kind with a long pattern, and the way to go on.
     Long(Box<Long<'a, 'h>>),
-    /// Of an input that is anchored, or asks for earliest matches.
+    /// Of an input that is anchored, by a leftmost kind.
+    Adjacent(Box<Adjacent<'a, 'h>>),
+    /// Of an input that is anchored by another kind, or asks for earliest matches.
     OneByOne(&'a AhoCorasick, Input<'h>),
     /// Of every occurrence, each that begins after the match before, which ends there.
     Picked(Box<FindOverlappingIter<'a, 'h>>, usize),
@@ -47,6 +50,10 @@ impl<'a, 'h> FindIter<'a, 'h> {
         FindIter(Way::Picked(Box::new(all), 0))
     }
 
+    pub(crate) fn adjacent(searcher: &'a AhoCorasick, input: &Input<'h>) -> FindIter<'a, 'h> {
+        FindIter(Way::Adjacent(Box::new(Adjacent::new(searcher, input))))
+    }
+
     pub(crate) fn one_by_one(searcher: &'a AhoCorasick, input: Input<'h>) -> FindIter<'a, 'h> {
         FindIter(Way::OneByOne(searcher, input))
     }
@@ -60,6 +67,7 @@ impl Iterator for FindIter<'_, '_> {
         match &mut self.0 {
             Way::Pages(pages) => pages.next(),
             Way::Long(long) => long.next(),
+            Way::Adjacent(adjacent) => adjacent.next(),
             Way::OneByOne(searcher, input) => {
                 let found = searcher.search_by_flags(input)?;
                 input.set_start(found.end());

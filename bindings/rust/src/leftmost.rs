@@ -4,8 +4,6 @@ use crate::error::BuildError;
 use crate::library::{Page, Prepared};
 use crate::pieces::Pieces;
 use crate::standard::likely_late;
-#[cfg(feature = "std")]
-use crate::stream::Room;
 use crate::{Match, MatchKind, PatternID, Span};
 use alloc::vec::Vec;
 
@@ -79,12 +77,6 @@ impl Leftmost {
             }
         }
         page
-    }
-
-    /// See [`Prepared::find_so_far`].
-    #[cfg(feature = "std")]
-    pub fn find_so_far(&self, haystack: &[u8], start: usize, more: bool, room: &mut Room) -> (usize, bool) {
-        self.prepared.find_so_far(haystack, start, more, room)
     }
 
     /// A match with the number of its pattern among all patterns.

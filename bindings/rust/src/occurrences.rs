@@ -5,8 +5,9 @@ use alloc::vec::Vec;
 use core::fmt;
 use core::iter::FusedIterator;
 
-/// The length of the parts that are searched, first and later.
+/// The length of the parts that are searched, first and later; and first in an anchored input, which has few matches.
 const FIRST_PART: usize = 256;
+const FIRST_ANCHORED_PART: usize = 16;
 const PART: usize = 1 << 16;
 
 /// How many occurrences a page has at most, after the first one.
@@ -104,7 +105,8 @@ impl Walk {
         if is_anchored {
             span.end = span.end.min(span.start.saturating_add(every.longest));
         }
-        Walk { span, is_anchored, reached: span.start, part: FIRST_PART, most: FEW, page: Vec::new(), given: 0 }
+        let part = if is_anchored { FIRST_ANCHORED_PART } else { FIRST_PART };
+        Walk { span, is_anchored, reached: span.start, part, most: FEW, page: Vec::new(), given: 0 }
     }
 
     #[inline]

@@ -188,14 +188,36 @@ impl AhoCorasick {
 
     /// All matches that do not overlap, where some flag is set or a pattern is long.
     fn try_matches<'a, 'h>(&'a self, input: Input<'h>) -> Result<FindIter<'a, 'h>, MatchError> {
+        let (kind, is_anchored) = (self.parts.kind, input.get_anchored().is_anchored());
         self.check(input.get_anchored())?;
-        Ok(if !self.is_plain(&input) {
-            FindIter::one_by_one(self, input)
-        } else if self.parts.kind == MatchKind::Standard {
-            FindIter::picked(FindOverlappingIter::new(self.every()?, &input))
-        } else {
-            FindIter::long(self, &self.parts.leftmost, input.haystack(), input.searched())
+        Ok(match (kind, input.get_earliest()) {
+            (MatchKind::Standard, _) if !is_anchored => {
+                FindIter::picked(FindOverlappingIter::new(self.every()?, &input))
+            }
+            (MatchKind::Standard, _) => FindIter::one_by_one(self, input),
+            (_, true) => self.earliest_matches(input),
+            (_, false) if is_anchored => FindIter::adjacent(self, &input),
+            (_, false) => self.leftmost_in(input.haystack(), input.searched()),
         })
+    }
+
+    /// The matches of a leftmost kind in a span.
+    pub(crate) fn leftmost_in<'a, 'h>(&'a self, haystack: &'h [u8], span: Span) -> FindIter<'a, 'h> {
+        if self.parts.is_paged {
+            FindIter::pages(&self.parts.leftmost, haystack, span)
+        } else {
+            FindIter::long(self, &self.parts.leftmost, haystack, span)
+        }
+    }
+
+    /// The earliest matches where the kind is a leftmost one. If a pattern is long, they are picked from every occurrence,
+    /// unless the array for that can't be built.
+    fn earliest_matches<'a, 'h>(&'a self, input: Input<'h>) -> FindIter<'a, 'h> {
+        let every = if self.parts.is_paged { None } else { self.built().ok() };
+        match every.filter(|_| !input.get_anchored().is_anchored()) {
+            Some(every) => FindIter::picked(FindOverlappingIter::new(every, &input)),
+            None => FindIter::one_by_one(self, input),
+        }
     }
 
     /// In how many bytes so many matches lie so close together that it takes less to pick them from every occurrence, of
@@ -324,8 +346,8 @@ impl AhoCorasick {
     /// earliest match.
     pub(crate) fn search_by_flags(&self, input: &Input<'_>) -> Option<Match> {
         let (mut span, is_anchored) = (input.searched(), input.get_anchored().is_anchored());
-        if self.parts.kind == MatchKind::Standard {
-            return FindOverlappingIter::new(done(self.every()), input).next();
+        if let Some(every) = self.every_for_earliest(input) {
+            return FindOverlappingIter::new(every, input).next();
         }
         if is_anchored {
             span.end = span.end.min(span.start.saturating_add(self.parts.longest));
@@ -351,6 +373,17 @@ impl AhoCorasick {
         Some(earliest)
     }
 
+    /// The search for every occurrence, if the match that is searched for is the one that ends first, and if by a leftmost
+    /// kind the array is built.
+    fn every_for_earliest(&self, input: &Input<'_>) -> Option<Every<'_>> {
+        let longest = self.parts.longest;
+        match self.parts.kind {
+            MatchKind::Standard => Some(done(self.every())),
+            _ if input.get_earliest() => self.parts.every.get().map(|prepared| Every { prepared, longest }),
+            _ => None,
+        }
+    }
+
     /// The search for every occurrence, which the first call builds.
     pub(crate) fn every(&self) -> Result<Every<'_>, MatchError> {
         if self.parts.kind != MatchKind::Standard {
@@ -366,25 +399,31 @@ impl AhoCorasick {
         Ok(Every { prepared, longest })
     }
 
-    /// Finds the first known matches from a place on, up to the wanted number, whatever follows the haystack, or if
-    /// nothing does. Returns where the search goes on, and whether no more are known.
+    /// Lists the first known matches from a place on, whatever follows the haystack, or if nothing does; in place of what
+    /// was in the list. Returns where the search goes on, and whether no more are known.
+    ///
+    /// With a long pattern it lists at least as many as that has bytes, if there are so many. For each call may look up a
+    /// hundred times these bytes.
     #[cfg(feature = "std")]
-    pub(crate) fn find_so_far(&self, haystack: &[u8], at: usize, more: bool, room: &mut Room) -> (usize, bool) {
-        if self.parts.kind != MatchKind::Standard {
-            return self.parts.leftmost.find_so_far(haystack, at, more, room);
-        }
-        let rest = Input::new(haystack).range(at..);
-        if !self.parts.is_paged {
-            room.extend(self.find_iter(rest).take(MOST));
+    pub(crate) fn find_so_far(&self, haystack: &[u8], at: usize, more: bool, found: &mut Room) -> (usize, bool) {
+        let Parts { longest, is_paged, .. } = *self.parts;
+        let (rest, most) = (Input::new(haystack).range(at..), if is_paged { MOST } else { MOST.max(longest) });
+        if is_paged {
+            self.parts.leftmost.page(haystack, rest.searched(), most, found);
         } else {
-            self.parts.leftmost.page(haystack, rest.searched(), MOST, room);
+            found.clear();
+            found.extend(self.find_iter(rest).take(most));
         }
         // (what ends first does so whatever follows)
-        let known = room.last().map_or(at, |it| it.end());
-        let kept = if more { self.parts.longest.saturating_sub(1) } else { 0 };
-        match room.len() {
-            MOST => (known, false),
-            _ => (known.max(haystack.len().saturating_sub(kept)), true),
+        if more && self.parts.kind != MatchKind::Standard {
+            found.truncate(found.partition_point(|it| it.start() + longest <= haystack.len()));
+        }
+        let known = found.last().map_or(at, |it| it.end());
+        let kept = if more { longest.saturating_sub(1) } else { 0 };
+        if found.len() == most {
+            (known, false)
+        } else {
+            (known.max(haystack.len().saturating_sub(kept)), true)
         }
     }
 
