@@ -404,7 +404,7 @@ def _state(searcher: "Search[Any]") -> Any:
 
 def _written(searcher: "Search[Any]") -> bytes:
     """The file of a searcher, without its checksum."""
-    pieces = [_encoded(it) for it in searcher.patterns]
+    pieces = [str.encode(it) if isinstance(it, str) else it for it in searcher.patterns]  # (by no method of a subclass)
     ends, kept = list(accumulate(map(len, pieces))), searcher._prepared
     lens = len(pieces), sum(map(len, pieces)), len(kept)
     case = searcher.ignore_case
@@ -451,14 +451,6 @@ def _read(whole: bytes) -> Optional[Tuple[Tuple[Any, ...], int, bool, bool, bool
 def _has_objects(view: memoryview) -> bool:
     """Whether its items are objects, or have fields that are: the names of fields are between colons."""
     return "O" in "".join(view.format.split(":")[::2])
-
-
-def _encoded(pattern: Union[str, bytes]) -> bytes:
-    """The bytes of a pattern."""
-    try:
-        return str.encode(pattern) if isinstance(pattern, str) else pattern  # (not by a method of a subclass)
-    except UnicodeEncodeError:
-        raise ValueError(f"the pattern {pattern!r} has a lone surrogate, which is no character") from None
 
 
 def _is_column(of: Any) -> bool:

@@ -251,6 +251,7 @@ impl AhoCorasick {
     /// assert_eq!(found, [Match::must(1, 0..3), Match::must(0, 0..6), Match::must(2, 3..6)]);
     /// # Ok::<(), aho_corasick::BuildError>(())
     /// ```
+    #[inline]
     pub fn find_overlapping_iter<'a, 'h, I: Into<Input<'h>>>(&'a self, input: I) -> FindOverlappingIter<'a, 'h> {
         let input = input.into();
         FindOverlappingIter::new(done(self.every_of(&input)), &input)
@@ -270,6 +271,7 @@ impl AhoCorasick {
     }
 
     /// The search for every occurrence in an input, if one is made.
+    #[inline]
     fn every_of(&self, input: &Input<'_>) -> Result<Every<'_>, MatchError> {
         self.check(input.get_anchored())?;
         let every = self.every()?;
@@ -385,6 +387,7 @@ impl AhoCorasick {
     }
 
     /// The search for every occurrence, which the first call builds.
+    #[inline]
     pub(crate) fn every(&self) -> Result<Every<'_>, MatchError> {
         if self.parts.kind != MatchKind::Standard {
             return Err(MatchError::unsupported_overlapping(self.parts.kind));
@@ -393,6 +396,7 @@ impl AhoCorasick {
     }
 
     /// The same by any kind.
+    #[inline]
     fn built(&self) -> Result<Every<'_>, BuildError> {
         let Parts { ignore_case, longest, ref pieces, ref every, .. } = *self.parts;
         let prepared = every.get_or_try(|| Prepared::overlapping(ignore_case, pieces))?;
