@@ -150,6 +150,7 @@ impl AhoCorasick {
     /// more than 1,024 bytes, it picks matches that lie close together from every occurrence. That may allocate 48 bytes
     /// for each byte of the longest pattern, the room of [`AhoCorasick::find_overlapping_iter`], and the first time the
     /// array for every occurrence. If memory for the bytes of the pattern or for the array is refused, it goes on without.
+    /// Earliest matches are then always picked from every occurrence, if there is memory for the array.
     ///
     /// # Panics
     ///
