@@ -74,7 +74,10 @@ static int out_leave_ascii(Out *out) {
 static inline int out_add(Out *out, const void *bytes, size_t len) {
     if (len > out->room - out->len && out_widen(out, len))
         return -1;
-    memcpy(out->bytes + out->len, bytes, len);
+    if (len == 1) /* (as often between or in place of letters, where a call takes longer) */
+        out->bytes[out->len] = *(const uint8_t *)bytes;
+    else
+        memcpy(out->bytes + out->len, bytes, len);
     out->len += len;
     return 0;
 }

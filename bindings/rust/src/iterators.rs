@@ -137,10 +137,10 @@ impl<'a, 'h> Pages<'a, 'h> {
 
     /// Finds the next page. One after it has more room, since it is full.
     fn turn(&mut self) {
-        let page = self.search.page(self.haystack, self.rest, self.most, &mut self.page);
-        self.rest.start = page.next;
+        let reached = self.search.page(self.haystack, self.rest, self.most, &mut self.page);
+        self.rest.start = reached.next;
         self.given = 0;
-        self.is_last = page.is_last == 1;
+        self.is_last = reached.is_last;
         self.most = MOST.min(8 * self.most);
     }
 }

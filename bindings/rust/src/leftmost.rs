@@ -1,7 +1,7 @@
 //! A search for leftmost matches, by the array of some of the patterns.
 use crate::declared::{LEFTMOST_FIRST, LEFTMOST_LONGEST};
 use crate::error::BuildError;
-use crate::library::{Page, Prepared};
+use crate::library::{Prepared, Reached};
 use crate::pieces::Pieces;
 use crate::standard::likely_late;
 use crate::{Match, MatchKind, PatternID, Span};
@@ -69,14 +69,14 @@ impl Leftmost {
     }
 
     /// Lists the first matches in a span, at most so many, in place of what was in the list.
-    pub fn page(&self, haystack: &[u8], span: Span, most: usize, found: &mut Vec<Match>) -> Page {
-        let page = self.prepared.page(haystack, span, most, found);
+    pub fn page(&self, haystack: &[u8], span: Span, most: usize, found: &mut Vec<Match>) -> Reached {
+        let reached = self.prepared.page(haystack, span, most, found);
         if !self.numbers.is_empty() {
             for found in found {
                 *found = self.named(*found);
             }
         }
-        page
+        reached
     }
 
     /// A match with the number of its pattern among all patterns.

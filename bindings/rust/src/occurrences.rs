@@ -1,5 +1,6 @@
 //! Every occurrence, one after another.
-use crate::library::{Page, Prepared, FEW};
+use crate::leftmost::Leftmost;
+use crate::library::{Prepared, Reached, FEW};
 use crate::{Input, Match, Span};
 use alloc::vec::Vec;
 use core::fmt;
@@ -18,6 +19,8 @@ const MANY: usize = 256;
 pub struct Every<'a> {
     pub prepared: &'a Prepared,
     pub longest: usize,
+    /// What finds the occurrence that ends first, if that is faster.
+    pub first: Option<&'a Leftmost>,
 }
 
 /// Every occurrence, of [`AhoCorasick::find_overlapping_iter`](crate::AhoCorasick::find_overlapping_iter).
@@ -128,27 +131,34 @@ impl Walk {
 
     /// Finds the occurrences that end in the next part, or in as much of it as a page has room for.
     fn turn(&mut self, every: Every<'_>, haystack: &[u8]) {
+        if let Some(first) = every.first.filter(|_| self.reached == self.span.start) {
+            let found = first.find(haystack, self.span);
+            self.reached = found.map_or(self.span.end, |it| it.end() - 1);
+            if found.is_none() {
+                return;
+            }
+        }
         let start = (self.reached + 1).saturating_sub(every.longest.max(1)).max(self.span.start);
         let end = self.reached.saturating_add(self.part).min(self.span.end);
         let page = self.fill(every, haystack, Span { start, end });
         put_longest_first(&mut self.page);
         self.given = self.page.partition_point(|it| it.end() <= self.reached);
         // (more than the page has may end where its last one does)
-        self.reached = if page.is_last == 1 { end } else { page.next - 1 };
+        self.reached = if page.is_last { end } else { page.next - 1 };
         self.page.truncate(self.page.partition_point(|it| it.end() <= self.reached));
         self.part = (2 * self.part).min(PART.max(every.longest.saturating_mul(4)));
-        if page.is_last == 0 {
+        if !page.is_last {
             self.most = self.most.max(MANY);
         }
     }
 
     /// Finds a page of occurrences in a span. It grows until it has all, or goes farther beyond `reached` than the span
     /// begins before it, so that not much is read again.
-    fn fill(&mut self, every: Every<'_>, haystack: &[u8], span: Span) -> Page {
+    fn fill(&mut self, every: Every<'_>, haystack: &[u8], span: Span) -> Reached {
         let least = 2 * self.reached - span.start;
         loop {
             let page = every.prepared.overlapping_page(haystack, span, self.most, &mut self.page);
-            if page.is_last == 1 || least + 1 < page.next {
+            if page.is_last || least + 1 < page.next {
                 return page;
             }
             self.most = MANY.max(2 * self.most);

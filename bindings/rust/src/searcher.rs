@@ -14,6 +14,9 @@ use crate::{
 use alloc::sync::Arc;
 use core::fmt;
 
+/// For so few patterns the search for the first occurrence is faster than the one for every occurrence.
+const FEW_PATTERNS: usize = 3;
+
 /// Searches for any number of patterns.
 ///
 /// Threads may share it. A clone is the same search, and takes no memory. The calls whose names begin with `try_` return
@@ -279,7 +282,8 @@ impl AhoCorasick {
         if input.get_anchored().is_anchored() {
             return Err(MatchError::invalid_input_anchored());
         }
-        Ok(every)
+        let first = Some(&self.parts.leftmost).filter(|_| self.parts.patterns_len <= FEW_PATTERNS);
+        Ok(Every { first, ..every })
     }
 
     /// Finds the next occurrence, in the order of [`AhoCorasick::find_overlapping_iter`]; in an anchored input the next
@@ -382,7 +386,9 @@ impl AhoCorasick {
         let longest = self.parts.longest;
         match self.parts.kind {
             MatchKind::Standard => Some(done(self.every())),
-            _ if input.get_earliest() => self.parts.every.get().map(|prepared| Every { prepared, longest }),
+            _ if input.get_earliest() => {
+                self.parts.every.get().map(|prepared| Every { prepared, longest, first: None })
+            }
             _ => None,
         }
     }
@@ -401,7 +407,7 @@ impl AhoCorasick {
     fn built(&self) -> Result<Every<'_>, BuildError> {
         let Parts { ignore_case, longest, ref pieces, ref every, .. } = *self.parts;
         let prepared = every.get_or_try(|| Prepared::overlapping(ignore_case, pieces))?;
-        Ok(Every { prepared, longest })
+        Ok(Every { prepared, longest, first: None })
     }
 
     /// Lists the first known matches from a place on, whatever follows the haystack, or if nothing does; in place of what
