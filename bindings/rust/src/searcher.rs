@@ -413,8 +413,8 @@ impl AhoCorasick {
     /// Lists the first known matches from a place on, whatever follows the haystack, or if nothing does; in place of what
     /// was in the list. Returns where the search goes on, and whether no more are known.
     ///
-    /// With a long pattern it lists at least as many as that has bytes, if there are so many. For each call may look up a
-    /// hundred times these bytes.
+    /// With a long pattern it lists as many as that has bytes, if there are so many: a call may look up a hundred times the
+    /// length of the pattern for its first matches.
     #[cfg(feature = "std")]
     pub(crate) fn find_so_far(&self, haystack: &[u8], at: usize, more: bool, found: &mut Room) -> (usize, bool) {
         let Parts { longest, is_paged, .. } = *self.parts;
