@@ -355,19 +355,15 @@ def _begin(
     if isinstance(patterns, (set, frozenset)) and kind == Kind.LEFTMOST_FIRST:
         raise TypeError("a set has no order, by which Kind.LEFTMOST_FIRST chooses: take a list, or LEFTMOST_LONGEST")
     values: Optional[Tuple[Any, ...]] = None
-    if isinstance(patterns, Mapping):  # (asked once, since it may change meanwhile)
-        items = list(patterns.items())
-        patterns, values = [key for key, _ in items], tuple(value for _, value in items)
-    given: Tuple[Any, ...] = tuple(
-        it if isinstance(it, str) else _native.plain_bytes(it, "a pattern") for it in _many(patterns)
-    )
-    if len({isinstance(it, str) for it in given}) > 1:
-        raise TypeError("the patterns are partly str and partly bytes")
+    if type(patterns) not in (list, tuple):  # (which is faster to ask, and so they are neither of these)
+        if isinstance(patterns, Mapping):  # (asked once, since it may change meanwhile)
+            items = list(patterns.items())
+            patterns, values = [key for key, _ in items], tuple(value for _, value in items)
+        patterns = _many(patterns)
     if isinstance(ignore_case, str) and ignore_case != "ascii":
         raise ValueError(f'ignore_case is True, False or "ascii", and not {ignore_case!r}')
-    are_str = any(isinstance(it, str) for it in given)
-    flags = bool(ignore_case), are_str and ignore_case == "ascii", bool(whole_words)
-    made._prepare(given, tuple(map(_encoded, given)), int(Kind(kind)), *flags, kept, values)
+    kind = kind if type(kind) is Kind else Kind(kind)
+    made._prepare(patterns, kind, ignore_case, ignore_case == "ascii", whole_words, kept, values)
 
 
 def _made(
@@ -408,7 +404,7 @@ def _state(searcher: "Search[Any]") -> Any:
 
 def _written(searcher: "Search[Any]") -> bytes:
     """The file of a searcher, without its checksum."""
-    pieces = [_encoded(it) for it in searcher.patterns]
+    pieces = [str.encode(it) if isinstance(it, str) else it for it in searcher.patterns]  # (by no method of a subclass)
     ends, kept = list(accumulate(map(len, pieces))), searcher._prepared
     lens = len(pieces), sum(map(len, pieces)), len(kept)
     case = searcher.ignore_case
@@ -433,7 +429,7 @@ def _replace(name: str, whole: bytes, mode: Optional[int]) -> None:
         raise
 
 
-def _read(whole: bytes) -> Optional[Tuple[Tuple[Any, ...], Tuple[bytes, ...], int, bool, bool, bool, bytes, None]]:
+def _read(whole: bytes) -> Optional[Tuple[Tuple[Any, ...], int, bool, bool, bool, bytes, None]]:
     """The arguments of `_prepare` from a file of a searcher."""
     summed = memoryview(whole)[: -_SUM.size]
     if len(whole) < _HEAD.size + _SUM.size or _SUM.pack(zlib.crc32(summed)) != whole[-_SUM.size :]:
@@ -449,20 +445,12 @@ def _read(whole: bytes) -> Optional[Tuple[Tuple[Any, ...], Tuple[bytes, ...], in
     pieces = tuple(buffer[start:end] for start, end in zip((0, *ends), ends))
     patterns = tuple(it.decode() for it in pieces) if is_str else pieces
     ignore_case, whole_words, ascii_case = (bool(flags & it) for it in (1, 2, 4))
-    return patterns, pieces, kind, ignore_case, ascii_case, whole_words, whole[behind_ends + size : -_SUM.size], None
+    return patterns, kind, ignore_case, ascii_case, whole_words, whole[behind_ends + size : -_SUM.size], None
 
 
 def _has_objects(view: memoryview) -> bool:
     """Whether its items are objects, or have fields that are: the names of fields are between colons."""
     return "O" in "".join(view.format.split(":")[::2])
-
-
-def _encoded(pattern: Union[str, bytes]) -> bytes:
-    """The bytes of a pattern."""
-    try:
-        return str.encode(pattern) if isinstance(pattern, str) else pattern  # (not by a method of a subclass)
-    except UnicodeEncodeError:
-        raise ValueError(f"the pattern {pattern!r} has a lone surrogate, which is no character") from None
 
 
 def _is_column(of: Any) -> bool:

@@ -210,9 +210,8 @@ static int pause_after(size_t *done, size_t len) {
 
 /* Adds an answer to a list, or drops the list with an error. */
 static void add_answer(PyObject **all, PyObject *one) {
-    if (!one || PyList_Append(*all, one))
+    if (add_item(*all, one))
         Py_CLEAR(*all);
-    Py_XDECREF(one);
 }
 
 /* What is found in each text of a column, as a list. */

@@ -19,9 +19,18 @@ static PyObject **items_of(PyObject *match) {
     return ((PyTupleObject *)match)->ob_item;
 }
 
+/* The memory of some matches that are gone, for the next ones: an iteration needs one or two at a time. */
+enum { MOST_FREED = 8 };
+static PyObject *freed[MOST_FREED];
+static size_t freed_count;
+
 /* A match without its items. */
 static PyObject *empty_match(void) {
-    PyObject *match = (PyObject *)PyObject_GC_NewVar(PyTupleObject, &match_type, ITEMS);
+    PyObject *match = freed_count > 0 ? freed[--freed_count] : NULL;
+    if (match)
+        PyObject_InitVar((PyVarObject *)match, &match_type, ITEMS);
+    else
+        match = (PyObject *)PyObject_GC_NewVar(PyTupleObject, &match_type, ITEMS);
     if (!match)
         return NULL;
     memset(items_of(match), 0, ITEMS * sizeof(PyObject *));
@@ -36,7 +45,7 @@ static PyObject *empty_match(void) {
 static PyObject *new_match(const size_t shown[SHOWN], PyObject *text, PyObject *values, bool leads_on) {
     PyObject *match = empty_match();
     for (int i = 0; match && i < SHOWN; i++) {
-        items_of(match)[i] = PyLong_FromSize_t(shown[i]);
+        items_of(match)[i] = PyLong_FromLong((long)shown[i]); /* (no offset is above LONG_MAX; FromSize_t is slower) */
         if (!items_of(match)[i])
             Py_CLEAR(match);
     }
@@ -88,7 +97,10 @@ static void match_dealloc(PyObject *of) {
     PyObject_GC_UnTrack(of);
     for (int i = 0; i < ITEMS; i++)
         Py_XDECREF(items_of(of)[i]);
-    PyObject_GC_Del(of);
+    if (freed_count < MOST_FREED)
+        freed[freed_count++] = of;
+    else
+        PyObject_GC_Del(of);
 }
 
 static PyObject *match_repr(PyObject *of) {

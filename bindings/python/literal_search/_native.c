@@ -123,12 +123,9 @@ static PyObject *search_find_earliest(PyObject *self, PyObject *const *given, Py
 static PyObject *listed(Walk *walk, Py_ssize_t most) {
     const literal_match *found;
     PyObject *all = PyList_New(0);
-    while (all && (PyList_GET_SIZE(all) < most || walk->given < walk->written) && (found = walk_next(walk))) {
-        PyObject *match = walk_match(walk, found);
-        if (!match || PyList_Append(all, match))
+    while (all && (PyList_GET_SIZE(all) < most || walk->given < walk->written) && (found = walk_next(walk)))
+        if (add_item(all, walk_match(walk, found)))
             Py_CLEAR(all);
-        Py_XDECREF(match);
-    }
     if (PyErr_Occurred())
         Py_CLEAR(all);
     return all;
@@ -188,12 +185,9 @@ static PyObject *search_findall_strings(PyObject *self, PyObject *const *given, 
     if (arguments(OF_SEARCH, 1, given, count, names, asked) || walk_begin(&walk, (Prepared *)self, false, asked))
         return NULL;
     strings = PyList_New(0);
-    while (strings && (found = walk_next(&walk))) {
-        PyObject *one = string_of(&walk, found);
-        if (!one || PyList_Append(strings, one))
+    while (strings && (found = walk_next(&walk)))
+        if (add_item(strings, string_of(&walk, found)))
             Py_CLEAR(strings);
-        Py_XDECREF(one);
-    }
     if (PyErr_Occurred())
         Py_CLEAR(strings);
     walk_end(&walk);
@@ -548,28 +542,51 @@ static bool has_one_each(PyObject *of, size_t count) {
     return PyTuple_Check(of) && (size_t)PyTuple_GET_SIZE(of) == count;
 }
 
-PyDoc_STRVAR(prepare_doc, "_prepare($self, patterns, pieces, kind, ignore_case, ascii_case, whole_words, kept, values, /)"
-"\n--\n\nSets the patterns, whose bytes are the pieces. `kept` is `_prepared` of a searcher for the same patterns, or None.\n"
+/* The patterns as a tuple of str, or of bytes of no subclass. */
+static PyObject *patterns_of(PyObject *given) {
+    PyObject *many = PySequence_Tuple(given);
+    Py_ssize_t count = many ? PyTuple_GET_SIZE(many) : 0, strs = 0;
+    PyObject *patterns = many ? PyTuple_New(count) : NULL;
+    for (Py_ssize_t i = 0; patterns && i < count; i++) {
+        PyObject *it = PyTuple_GET_ITEM(many, i);
+        PyObject *pattern = PyUnicode_Check(it) ? Py_NewRef(it) : plain_bytes(it, "a pattern");
+        strs += PyUnicode_Check(it);
+        if (pattern)
+            PyTuple_SET_ITEM(patterns, i, pattern);
+        else
+            Py_CLEAR(patterns);
+    }
+    Py_XDECREF(many);
+    if (patterns && strs > 0 && strs < count) {
+        Py_CLEAR(patterns);
+        PyErr_SetString(PyExc_TypeError, "the patterns are partly str and partly bytes");
+    }
+    return patterns;
+}
+
+PyDoc_STRVAR(prepare_doc, "_prepare($self, patterns, kind, ignore_case, ascii_case, whole_words, kept, values, /)\n--\n"
+"\nSets the patterns, str or what lends bytes. `kept` is `_prepared` of a searcher for the same patterns, or None.\n"
 "`values` has a mapping's value for each pattern, or is None.");
 
 static PyObject *search_prepare(PyObject *of, PyObject *given) {
     Prepared *self = (Prepared *)of, new = {.takes = TAKES_EITHER};
-    PyObject *pieces_of, *kept, *values;
+    PyObject *patterns, *kept, *values;
     int ignore_case, ascii_case, whole_words;
-    if (!PyArg_ParseTuple(given, "O!O!ipppOO:_prepare", &PyTuple_Type, &new.patterns, &PyTuple_Type, &pieces_of,
-                          &new.kind, &ignore_case, &ascii_case, &whole_words, &kept, &values) ||
-        join_pieces(&new.pieces, pieces_of))
+    if (!PyArg_ParseTuple(given, "OipppOO:_prepare", &patterns, &new.kind, &ignore_case, &ascii_case, &whole_words,
+                          &kept, &values) ||
+        !(new.patterns = patterns_of(patterns)))
         return NULL;
-    if (!has_one_each(new.patterns, new.pieces.count) || (values != Py_None && !has_one_each(values, new.pieces.count))) {
-        free_pieces(&new.pieces);
-        PyErr_SetString(PyExc_ValueError, "there is not one of each for each pattern");
+    if (values != Py_None && !has_one_each(values, (size_t)PyTuple_GET_SIZE(new.patterns)))
+        PyErr_SetString(PyExc_ValueError, "there is not one value for each pattern");
+    if (PyErr_Occurred() || join_pieces(&new.pieces, new.patterns)) {
+        Py_DECREF(new.patterns);
         return NULL;
     }
-    new.ignore_case = (char)ignore_case;
-    new.ascii_case = (char)ascii_case;
-    new.whole_words = (char)whole_words;
     if (PyTuple_GET_SIZE(new.patterns) > 0)
         new.takes = PyUnicode_Check(PyTuple_GET_ITEM(new.patterns, 0)) ? TAKES_STR : TAKES_BYTES;
+    new.ignore_case = (char)ignore_case;
+    new.ascii_case = (char)(ascii_case && new.takes == TAKES_STR);
+    new.whole_words = (char)whole_words;
     /* (with patterns of ASCII alone the text is not folded: no other character is folded to one of ASCII) */
     if (new.takes == TAKES_STR && ignore_case && !ascii_case && !are_ascii(&new.pieces)) {
         new.takes = TAKES_FOLDED;
@@ -582,9 +599,10 @@ static PyObject *search_prepare(PyObject *of, PyObject *given) {
     }
     if (!new.prepared) {
         free_pieces(&new.pieces);
+        Py_DECREF(new.patterns);
         return NULL;
     }
-    self->patterns = Py_NewRef(new.patterns);
+    self->patterns = new.patterns;
     self->values = values == Py_None ? NULL : Py_NewRef(values);
     self->leads_on = self->values || !all_are_exact(new.patterns);
     self->pieces = new.pieces;

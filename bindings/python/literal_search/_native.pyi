@@ -1,6 +1,6 @@
 from array import array
-from typing import Any, AnyStr, Callable, Generic, Iterator, List, Optional, Sequence, SupportsIndex, Tuple, Union
-from typing import final, overload
+from typing import Any, AnyStr, Callable, Generic, Iterable, Iterator, List, Optional, Sequence, SupportsIndex, Tuple
+from typing import Union, final, overload
 
 from _typeshed import ReadableBuffer
 
@@ -144,10 +144,9 @@ class Prepared(Generic[AnyStr]):
     def _each(self, column: Any, skip_missing: bool, counts: bool, /) -> List[Any]: ...
     def _prepare(
         self,
-        patterns: Tuple[AnyStr, ...],
-        pieces: Tuple[bytes, ...],
+        patterns: Iterable[Any],
         kind: int,
-        ignore_case: bool,
+        ignore_case: Union[bool, str],
         ascii_case: bool,
         whole_words: bool,
         kept: Optional[bytes],

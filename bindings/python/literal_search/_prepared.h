@@ -56,23 +56,43 @@ static void free_pieces(Pieces *pieces) {
     PyMem_Free(pieces->ends);
 }
 
+/* The bytes of a pattern: of a str those of its UTF-8, which Python keeps with it. */
+static const char *bytes_of(PyObject *pattern, Py_ssize_t *len) {
+    if (!PyUnicode_Check(pattern)) {
+        *len = PyBytes_GET_SIZE(pattern);
+        return PyBytes_AS_STRING(pattern);
+    }
+    const char *bytes = PyUnicode_AsUTF8AndSize(pattern, len);
+    if (!bytes && PyErr_ExceptionMatches(PyExc_UnicodeEncodeError)) {
+        PyErr_Clear();
+        PyErr_Format(PyExc_ValueError, "the pattern %R has a lone surrogate, which is no character", pattern);
+    }
+    return bytes;
+}
+
+/* Joins patterns, which are str or bytes. */
 static int join_pieces(Pieces *pieces, PyObject *of) {
-    size_t count = (size_t)PyTuple_GET_SIZE(of), len = 0, at = 0;
-    for (size_t i = 0; i < count; i++)
-        len += (size_t)PyBytes_GET_SIZE(PyTuple_GET_ITEM(of, i));
-    *pieces = (Pieces){PyMem_Malloc(len), PyMem_New(size_t, count), len, count, 0};
+    size_t count = (size_t)PyTuple_GET_SIZE(of), at = 0;
+    Py_ssize_t len;
+    *pieces = (Pieces){NULL, NULL, 0, count, 0};
+    for (size_t i = 0; i < count; i++) {
+        if (!bytes_of(PyTuple_GET_ITEM(of, i), &len))
+            return -1;
+        pieces->len += (size_t)len;
+    }
+    pieces->bytes = PyMem_Malloc(pieces->len);
+    pieces->ends = PyMem_New(size_t, count);
     if (!pieces->bytes || !pieces->ends) {
         free_pieces(pieces);
         PyErr_NoMemory();
         return -1;
     }
     for (size_t i = 0; i < count; i++) {
-        PyObject *piece = PyTuple_GET_ITEM(of, i);
-        size_t piece_len = (size_t)PyBytes_GET_SIZE(piece);
-        memcpy(pieces->bytes + at, PyBytes_AS_STRING(piece), piece_len);
-        pieces->ends[i] = at += piece_len;
-        if (piece_len > pieces->longest)
-            pieces->longest = piece_len;
+        const char *bytes = bytes_of(PyTuple_GET_ITEM(of, i), &len);
+        memcpy(pieces->bytes + at, bytes, (size_t)len);
+        pieces->ends[i] = at += (size_t)len;
+        if ((size_t)len > pieces->longest)
+            pieces->longest = (size_t)len;
     }
     return 0;
 }

@@ -8,37 +8,76 @@
 #include "_text.h"
 #include "_walk.h"
 
-/* Bytes that are written one after another. */
+/* What is written of an answer: on the stack while it is short, and then into an object, which becomes the answer if
+ * that is bytes, or a str of ASCII. */
 typedef struct {
     uint8_t *bytes, first[512];
-    size_t len, room;
+    size_t len, room, likely; /* (how long it is likely to become) */
+    PyObject *of;             /* the object, or NULL */
+    bool is_str, is_ascii;
 } Out;
 
-static void out_begin(Out *out) {
+static void out_begin(Out *out, const Text *text) {
     out->bytes = out->first;
     out->len = 0;
     out->room = sizeof out->first;
+    out->likely = text->len + text->len / 16;
+    out->of = NULL;
+    out->is_str = text->is_str;
+    out->is_ascii = text->is_str && PyUnicode_IS_COMPACT_ASCII(text->of);
 }
 
 static void out_end(Out *out) {
-    if (out->bytes != out->first)
-        PyMem_Free(out->bytes);
+    Py_CLEAR(out->of);
 }
 
-static int out_add(Out *out, const void *bytes, size_t len) {
-    if (len > out->room - out->len) {
-        size_t room = 2 * (out->len + len);
-        uint8_t *wider = PyMem_Realloc(out->bytes == out->first ? NULL : out->bytes, room);
-        if (!wider) {
-            PyErr_NoMemory();
-            return -1;
-        }
-        if (out->bytes == out->first)
-            memcpy(wider, out->first, out->len);
-        out->bytes = wider;
-        out->room = room;
+/* Gives the object so much room, or makes it. */
+static int out_resize(Out *out, size_t room) {
+    if (room > PY_SSIZE_T_MAX) {
+        PyErr_NoMemory();
+        return -1;
     }
-    memcpy(out->bytes + out->len, bytes, len);
+    Py_ssize_t size = (Py_ssize_t)room;
+    if (!out->of)
+        out->of = out->is_ascii ? PyUnicode_New(size, 127) : PyBytes_FromStringAndSize(NULL, size);
+    else if (out->is_ascii ? PyUnicode_Resize(&out->of, size) : _PyBytes_Resize(&out->of, size))
+        return -1;
+    if (!out->of)
+        return -1;
+    uint8_t *bytes = out->is_ascii ? PyUnicode_1BYTE_DATA(out->of) : (uint8_t *)PyBytes_AS_STRING(out->of);
+    if (out->bytes == out->first)
+        memcpy(bytes, out->first, out->len);
+    out->bytes = bytes;
+    out->room = room;
+    return 0;
+}
+
+/* Makes room for so many bytes more. */
+static int out_widen(Out *out, size_t more) {
+    size_t room = 2 * (out->len + more);
+    return out_resize(out, room < out->likely ? out->likely : room);
+}
+
+/* Goes on with bytes: what follows is not ASCII. */
+static int out_leave_ascii(Out *out) {
+    PyObject *ascii = out->of;
+    out->is_ascii = false;
+    if (!ascii)
+        return 0;
+    out->of = PyBytes_FromStringAndSize(NULL, (Py_ssize_t)out->room);
+    if (out->of)
+        out->bytes = memcpy(PyBytes_AS_STRING(out->of), PyUnicode_1BYTE_DATA(ascii), out->len);
+    Py_DECREF(ascii);
+    return out->of ? 0 : -1;
+}
+
+static inline int out_add(Out *out, const void *bytes, size_t len) {
+    if (len > out->room - out->len && out_widen(out, len))
+        return -1;
+    if (len == 1) /* (as often between or in place of letters, where a call takes longer) */
+        out->bytes[out->len] = *(const uint8_t *)bytes;
+    else
+        memcpy(out->bytes + out->len, bytes, len);
     out->len += len;
     return 0;
 }
@@ -48,9 +87,23 @@ static int out_add_str(Out *out, PyObject *str) {
     Py_ssize_t len;
     PyObject *encoded = NULL;
     const char *bytes = utf8_of(str, &len, &encoded);
-    int status = bytes ? out_add(out, bytes, (size_t)len) : -1;
+    int status = -1;
+    if (bytes && !(out->is_ascii && !PyUnicode_IS_ASCII(str) && out_leave_ascii(out)))
+        status = out_add(out, bytes, (size_t)len);
     Py_XDECREF(encoded);
     return status;
+}
+
+/* What was written, as str or bytes. */
+static PyObject *written(Out *out) {
+    PyObject *answer;
+    if (out->is_str && !out->is_ascii)
+        return PyUnicode_DecodeUTF8((const char *)out->bytes, (Py_ssize_t)out->len, "surrogatepass");
+    if (out_resize(out, out->len))
+        return NULL;
+    answer = out->of;
+    out->of = NULL;
+    return answer;
 }
 
 /* The bytes of a pattern or a replacement, as bytes of no subclass. */
@@ -124,12 +177,15 @@ typedef struct {
     PyObject *encoded; /* which has the bytes, or NULL if the replacement has them */
 } Same;
 
-static int same_for_all(Same *same, PyObject *by) {
+static int same_for_all(Same *same, PyObject *by, Out *out) {
     *same = (Same){NULL, 0, NULL};
     if (PyCallable_Check(by) || PyTuple_CheckExact(by))
         return 0;
-    if (PyUnicode_Check(by))
-        return (same->bytes = utf8_of(by, &same->len, &same->encoded)) ? 0 : -1;
+    if (PyUnicode_Check(by)) {
+        same->bytes = utf8_of(by, &same->len, &same->encoded);
+        out->is_ascii = out->is_ascii && same->bytes && PyUnicode_IS_ASCII(by);
+        return same->bytes ? 0 : -1;
+    }
     same->bytes = PyBytes_AS_STRING(by);
     same->len = PyBytes_GET_SIZE(by);
     return 0;
@@ -156,12 +212,6 @@ static PyObject *whole_of(const Text *text) {
     return part_of(text, (Place){0, 0}, end);
 }
 
-/* What was written, as str or bytes. */
-static PyObject *written(const Out *out, bool is_str) {
-    return is_str ? PyUnicode_DecodeUTF8((const char *)out->bytes, (Py_ssize_t)out->len, "surrogatepass")
-                  : PyBytes_FromStringAndSize((const char *)out->bytes, (Py_ssize_t)out->len);
-}
-
 /* The text of a walk with at most so many matches replaced, from the left. */
 static PyObject *replaced(Walk *walk, PyObject *by, size_t most, size_t *done) {
     Out out;
@@ -169,9 +219,9 @@ static PyObject *replaced(Walk *walk, PyObject *by, size_t most, size_t *done) {
     const literal_match *found = NULL;
     PyObject *answer = NULL;
     Same same;
-    if (same_for_all(&same, by))
+    out_begin(&out, &walk->text);
+    if (same_for_all(&same, by, &out))
         return NULL;
-    out_begin(&out);
     for (*done = 0; *done < most && (found = walk_next(walk)); (*done)++) {
         if (replace_one(&out, walk, by, &same, at, found))
             break;
@@ -181,7 +231,7 @@ static PyObject *replaced(Walk *walk, PyObject *by, size_t most, size_t *done) {
         if (*done == 0)
             answer = whole_of(&walk->text);
         else if (!out_add(&out, walk->text.shown + at, walk->text.len - at))
-            answer = written(&out, walk->text.is_str);
+            answer = written(&out);
     }
     out_end(&out);
     Py_XDECREF(same.encoded);
@@ -195,27 +245,19 @@ static PyObject *part_replaced(Walk *walk, PyObject *by) {
     const literal_match *found = NULL;
     PyObject *answer = NULL;
     Same same;
-    if (same_for_all(&same, by))
+    out_begin(&out, &walk->text);
+    if (same_for_all(&same, by, &out))
         return NULL;
-    out_begin(&out);
     while ((found = walk_next(walk)) && !replace_one(&out, walk, by, &same, at, found))
         at = found->end;
     if (!PyErr_Occurred()) {
         searched_to(walk);
         if (!out_add(&out, walk->text.shown + at, walk->place.byte - at))
-            answer = written(&out, walk->text.is_str);
+            answer = written(&out);
     }
     out_end(&out);
     Py_XDECREF(same.encoded);
     return answer;
-}
-
-/* Adds a part of a text to a list. */
-static int add_part(PyObject *parts, const Text *text, Place start, Place end) {
-    PyObject *part = part_of(text, start, end);
-    int status = part ? PyList_Append(parts, part) : -1;
-    Py_XDECREF(part);
-    return status;
 }
 
 /* The parts of the text of a walk before, between and behind at most so many matches. */
@@ -226,14 +268,14 @@ static PyObject *split_up(Walk *walk, size_t most) {
     for (size_t done = 0; parts && done < most && (found = walk_next(walk)); done++) {
         Place start = at;
         offset_of(&walk->text, &start, found->start);
-        if (add_part(parts, &walk->text, at, start))
+        if (add_item(parts, part_of(&walk->text, at, start)))
             Py_CLEAR(parts);
         at = start;
         offset_of(&walk->text, &at, found->end);
     }
     Place end = at;
     offset_of(&walk->text, &end, walk->text.len);
-    if (parts && (PyErr_Occurred() || add_part(parts, &walk->text, at, end)))
+    if (parts && (PyErr_Occurred() || add_item(parts, part_of(&walk->text, at, end))))
         Py_CLEAR(parts);
     return parts;
 }

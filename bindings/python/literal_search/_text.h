@@ -256,6 +256,21 @@ static int slice_offset(PyObject *given, Py_ssize_t otherwise, Py_ssize_t *offse
     return *offset == -1 && PyErr_Occurred() ? -1 : 0;
 }
 
+/* Adds an item to a list, which takes it over. Without an item it only fails. */
+static inline int add_item(PyObject *list, PyObject *item) {
+    if (!item)
+        return -1;
+    Py_ssize_t len = PyList_GET_SIZE(list);
+    if (len < ((PyListObject *)list)->allocated) {
+        PyList_SET_ITEM(list, len, item);
+        Py_SET_SIZE(list, len + 1);
+        return 0;
+    }
+    int status = PyList_Append(list, item);
+    Py_DECREF(item);
+    return status;
+}
+
 /* Whether what holds it may lead back to what it holds: such a thing the collector has to visit. */
 static bool leads_on(const Text *text) {
     return !PyUnicode_CheckExact(text->of) && !PyBytes_CheckExact(text->of) && !PyByteArray_CheckExact(text->of);

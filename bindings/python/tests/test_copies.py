@@ -38,6 +38,13 @@ class Slotted(Search):
         return self.name, self.__hidden, hasattr(self, "unset")
 
 
+class Wrong(str):
+    """A str that is encoded otherwise by its own method."""
+
+    def encode(self, *_):
+        return b"wrong"
+
+
 class Both(Slotted):
     """One with slots and a dictionary."""
 
@@ -137,6 +144,10 @@ class Files(unittest.TestCase):
                     text = words[0] if words else ""
                     self.assertEqual(loaded.findall(text + text.upper()), searcher.findall(text + text.upper()))
         self.assertEqual([it.name for it in self.path.parent.iterdir()], [self.path.name])
+
+    def test_of_patterns_of_a_subclass(self):
+        Search([Wrong("äb")]).save(self.path)
+        self.assertEqual(Search.load(self.path), Search(["äb"]))
 
     def test_each_damaged_byte_is_noticed(self):
         Search([b"ab"]).save(self.path)

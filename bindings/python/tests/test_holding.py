@@ -286,7 +286,7 @@ class Threads(unittest.TestCase):
             lock, times = held_lock(), []
             other = threading.Thread(target=lambda: (lock.acquire(), times.append(time.perf_counter())))
             other.start()
-            prepared = functools.partial(Search.__new__(Search)._prepare, (word,), (word,), *[0] * 4, None, None)
+            prepared = functools.partial(Search.__new__(Search)._prepare, (word,), *[0] * 4, None, None)
             *_, ended = chain(map(RELEASED, [lock]), map(CALLED, [prepared, time.perf_counter]))
             other.join()
             if times[0] < ended:

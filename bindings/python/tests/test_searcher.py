@@ -258,7 +258,16 @@ class Matches(unittest.TestCase):
         self.assertEqual(Search(Changing(a=1)).find("xa").value, 1)
         for values in ((), (1, 2), [1]):
             with self.assertRaises(ValueError):
-                Search.__new__(Search)._prepare(("a",), (b"a",), 0, False, False, False, None, values)
+                Search.__new__(Search)._prepare(("a",), 0, False, False, False, None, values)
+
+    def test_kept_beside_others(self):
+        searcher, kept = Search([b"a", b"b"]), []
+        for _ in range(30):
+            kept += [it for i, it in enumerate(searcher.finditer(b"abcab" * 3)) if i % 4 == 1]
+            del kept[::5]
+        wanted = {(1, at, at + 1, b"b") for at in (1, 6, 11)}
+        self.assertLessEqual({(*it, it.group()) for it in kept}, wanted)
+        self.assertEqual(len({id(it) for it in kept}), len(kept))
 
     def test_searchers_of_mappings(self):
         searcher = Search({b"a": 1, b"b": [2]}, LONGEST, True)
@@ -506,6 +515,20 @@ class Replacing(unittest.TestCase):
             for new in (word[:0], word[:1] * 5):
                 self.assertEqual(Search([word]).sub(new, text), text.replace(word, new))
             self.assertEqual(Search([word]).split(text), text.split(word))
+
+    def test_long_texts_of_ascii(self):
+        """The answer need not be ASCII, which may turn out late."""
+        text = "xab" * 5000
+        for new in "é", "🐍ab", "", "-" * 7:
+            for count in (1, 5000):
+                self.assertEqual(Search(["ab"]).sub(new, text, count), text.replace("ab", new, count))
+                self.assertEqual(Search(["ab"]).sub(lambda _: new, text, count), text.replace("ab", new, count))
+        for at in (0, 1, 100, 4999):
+            news = iter(["-" if it != at else "é" for it in range(5000)])
+            self.assertEqual(Search(["ab"]).sub(lambda _: next(news), text), "x-" * at + "xé" + "x-" * (4999 - at))
+        self.assertEqual(Search(["x", "ab"]).sub(["yz", "é"], text), "yzé" * 5000)
+        self.assertEqual(Search(["x", "ab"]).sub(["", ""], text), "")
+        self.assertEqual(Search([b"x", b"ab"]).sub([b"", b""], text.encode()), b"")
 
     def test_lone_surrogates_in_a_replacement(self):
         self.assertEqual(Search(["a"]).sub("\ud83d\udc0d", "xaä"), "x\ud83d\udc0dä")

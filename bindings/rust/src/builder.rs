@@ -91,11 +91,11 @@ impl AhoCorasickBuilder {
         let mut pieces = Pieces::new(patterns)?;
         let leftmost = Leftmost::new(self.kind, self.ignore_case, &pieces)?;
         let (is_standard, every) = (self.kind == MatchKind::Standard, Lazy::new());
-        let is_picked = is_standard && !leftmost.is_fast();
-        if is_picked {
+        let is_paged = leftmost.is_fast();
+        if is_standard && !is_paged {
             every.get_or_try(|| Prepared::overlapping(self.ignore_case, &pieces))?;
         }
-        if !is_standard && leftmost.is_fast() {
+        if !is_standard && is_paged {
             pieces.drop_bytes();
         }
         Ok(AhoCorasick::of(Parts {
@@ -107,7 +107,7 @@ impl AhoCorasickBuilder {
             shortest: pieces.shortest,
             longest: pieces.longest,
             leftmost,
-            is_picked,
+            is_paged,
             pieces,
             every,
         }))

@@ -1,5 +1,7 @@
 //! Matches that do not overlap, one after another.
+use crate::adjacent::Adjacent;
 use crate::leftmost::Leftmost;
+use crate::library::FEW;
 use crate::picking::Picking;
 use crate::{AhoCorasick, FindOverlappingIter, Input, Match, Span};
 use alloc::boxed::Box;
@@ -10,11 +12,10 @@ use core::iter::FusedIterator;
 /// How many matches are searched for one by one. For a short text, with few matches, that is faster than a page.
 const SINGLE: usize = 2;
 
-/// Room for matches: of the first page on the stack, then, and at most. After the last match of a page the library looks
-/// up some 2,000 bytes (more, if a pattern has more than 1,024), which the next page looks up again. So larger pages look
-/// up fewer bytes twice.
-const FEW: usize = 4;
-const MANY: usize = 64;
+/// How many matches a page has at most: with long patterns at first, and later. After the last match of a page the
+/// library looks up some 2,000 bytes (more, if a pattern has more than 1,024), which the next page looks up again. So
+/// larger pages look up fewer bytes twice.
+const LONG: usize = 4;
 const MOST: usize = 1024;
 
 /// All matches that do not overlap, of [`AhoCorasick::find_iter`](crate::AhoCorasick::find_iter).
@@ -26,27 +27,31 @@ enum Way<'a, 'h> {
     Pages(Pages<'a, 'h>),
     /// By a leftmost kind with a long pattern, and the way to go on.
     Long(Box<Long<'a, 'h>>),
-    /// Of an input that is anchored, or asks for earliest matches.
+    /// Of an input that is anchored, by a leftmost kind.
+    Adjacent(Box<Adjacent<'a, 'h>>),
+    /// Of an input that is anchored by another kind, or asks for earliest matches.
     OneByOne(&'a AhoCorasick, Input<'h>),
     /// Of every occurrence, each that begins after the match before, which ends there.
-    Picked(FindOverlappingIter<'a, 'h>, usize),
+    Picked(Box<FindOverlappingIter<'a, 'h>>, usize),
 }
 
 impl<'a, 'h> FindIter<'a, 'h> {
     #[inline]
     pub(crate) fn pages(search: &'a Leftmost, haystack: &'h [u8], span: Span) -> FindIter<'a, 'h> {
-        FindIter(Way::Pages(Pages::new(search, haystack, span)))
+        FindIter(Way::Pages(Pages::new(search, haystack, span, FEW)))
     }
 
-    pub(crate) fn long(searcher: &'a AhoCorasick, pages: FindIter<'a, 'h>) -> FindIter<'a, 'h> {
-        match pages.0 {
-            Way::Pages(pages) => FindIter(Way::Long(Box::new(Long::new(searcher, pages)))),
-            other => FindIter(other),
-        }
+    pub(crate) fn long(searcher: &'a AhoCorasick, search: &'a Leftmost, haystack: &'h [u8], span: Span) -> Self {
+        let pages = Pages::new(search, haystack, span, LONG);
+        FindIter(Way::Long(Box::new(Long { searcher, pages, picking: None, can_pick: true })))
     }
 
     pub(crate) fn picked(all: FindOverlappingIter<'a, 'h>) -> FindIter<'a, 'h> {
-        FindIter(Way::Picked(all, 0))
+        FindIter(Way::Picked(Box::new(all), 0))
+    }
+
+    pub(crate) fn adjacent(searcher: &'a AhoCorasick, input: &Input<'h>) -> FindIter<'a, 'h> {
+        FindIter(Way::Adjacent(Box::new(Adjacent::new(searcher, input))))
     }
 
     pub(crate) fn one_by_one(searcher: &'a AhoCorasick, input: Input<'h>) -> FindIter<'a, 'h> {
@@ -62,8 +67,9 @@ impl Iterator for FindIter<'_, '_> {
         match &mut self.0 {
             Way::Pages(pages) => pages.next(),
             Way::Long(long) => long.next(),
+            Way::Adjacent(adjacent) => adjacent.next(),
             Way::OneByOne(searcher, input) => {
-                let found = searcher.search(input)?;
+                let found = searcher.search_by_flags(input)?;
                 input.set_start(found.end());
                 Some(found)
             }
@@ -78,44 +84,6 @@ impl Iterator for FindIter<'_, '_> {
 
 impl FusedIterator for FindIter<'_, '_> {}
 
-/// Places for matches, allocated only once a few are not enough.
-#[derive(Clone)]
-pub struct Room {
-    few: [Match; FEW],
-    many: Vec<Match>,
-}
-
-impl Room {
-    #[inline]
-    pub fn new() -> Room {
-        Room { few: [Match::ZERO; FEW], many: Vec::new() }
-    }
-
-    #[inline]
-    pub fn places(&mut self) -> &mut [Match] {
-        if self.many.is_empty() {
-            &mut self.few
-        } else {
-            &mut self.many
-        }
-    }
-
-    /// Makes room for twice as many, or at first for more.
-    pub fn grow(&mut self) {
-        let count = MANY.max(2 * self.many.len());
-        self.many.resize(count, Match::ZERO);
-    }
-
-    /// Whether there are as many places as a page has at most.
-    fn is_full_page(&self) -> bool {
-        self.many.len() >= MOST
-    }
-
-    pub fn is_allocated(&self) -> bool {
-        !self.many.is_empty()
-    }
-}
-
 /// All leftmost matches: the first ones one by one, then a page at a time.
 #[derive(Clone)]
 struct Pages<'a, 'h> {
@@ -124,16 +92,17 @@ struct Pages<'a, 'h> {
     /// The part that is still to be searched.
     rest: Span,
     singles: usize,
-    room: Room,
-    written: usize,
+    /// How many matches the next page has at most.
+    most: usize,
+    page: Vec<Match>,
     given: usize,
     is_last: bool,
 }
 
 impl<'a, 'h> Pages<'a, 'h> {
     #[inline]
-    fn new(search: &'a Leftmost, haystack: &'h [u8], rest: Span) -> Pages<'a, 'h> {
-        Pages { search, haystack, rest, singles: SINGLE, room: Room::new(), written: 0, given: 0, is_last: false }
+    fn new(search: &'a Leftmost, haystack: &'h [u8], rest: Span, most: usize) -> Pages<'a, 'h> {
+        Pages { search, haystack, rest, singles: SINGLE, most, page: Vec::new(), given: 0, is_last: false }
     }
 
     #[inline]
@@ -141,20 +110,22 @@ impl<'a, 'h> Pages<'a, 'h> {
         if self.singles > 0 {
             return self.single();
         }
-        while self.given == self.written && !self.is_last {
+        while self.is_given() && !self.is_last {
             self.turn();
         }
-        let found = self.room.places()[..self.written].get(self.given).copied();
-        self.given += usize::from(found.is_some());
-        found
+        let found = self.page.get(self.given).copied()?;
+        self.given += 1;
+        Some(found)
     }
 
-    /// Whether the next match is the first one of a page.
+    /// Whether all matches of the page were given.
+    #[inline]
     fn is_given(&self) -> bool {
-        self.singles == 0 && self.given == self.written
+        self.given == self.page.len()
     }
 
     /// Finds one match.
+    #[inline]
     fn single(&mut self) -> Option<Match> {
         let found = self.search.find(self.haystack, self.rest);
         match found {
@@ -164,15 +135,13 @@ impl<'a, 'h> Pages<'a, 'h> {
         found
     }
 
-    /// Finds the next page, with more room after a full one.
+    /// Finds the next page. One after it has more room, since it is full.
     fn turn(&mut self) {
-        if self.written > 0 && !self.room.is_full_page() {
-            self.room.grow();
-        }
-        let page = self.search.page(self.haystack, self.rest, self.room.places());
-        self.rest.start = page.next;
-        (self.written, self.given) = (page.written, 0);
-        self.is_last = page.is_last == 1;
+        let reached = self.search.page(self.haystack, self.rest, self.most, &mut self.page);
+        self.rest.start = reached.next;
+        self.given = 0;
+        self.is_last = reached.is_last;
+        self.most = MOST.min(8 * self.most);
     }
 }
 
@@ -192,12 +161,8 @@ struct Long<'a, 'h> {
 }
 
 impl<'a, 'h> Long<'a, 'h> {
-    fn new(searcher: &'a AhoCorasick, pages: Pages<'a, 'h>) -> Long<'a, 'h> {
-        Long { searcher, pages, picking: None, can_pick: true }
-    }
-
     fn next(&mut self) -> Option<Match> {
-        if self.pages.is_given() {
+        if self.pages.singles == 0 && self.pages.is_given() {
             match self.picking.as_mut().map(Picking::next) {
                 Some(Ok(found)) => return found.map(|it| self.picked(it)),
                 Some(Err(_)) => (self.picking, self.can_pick) = (None, false),
@@ -215,7 +180,7 @@ impl<'a, 'h> Long<'a, 'h> {
         let start = self.pages.rest.start;
         self.pages.turn();
         let rest = self.pages.rest;
-        let is_close = rest.start - start <= self.searcher.close_len(self.pages.written);
+        let is_close = rest.start - start <= self.searcher.close_len(self.pages.page.len());
         if self.can_pick && !self.pages.is_last && is_close {
             self.picking = self.searcher.picking(&Input::new(self.pages.haystack).span(rest));
             self.can_pick = self.picking.is_some();
@@ -229,7 +194,7 @@ impl<'a, 'h> Long<'a, 'h> {
         self.pages.rest = rest;
         if len > self.searcher.close_len(1) {
             self.picking = None;
-            self.pages = Pages::new(self.pages.search, self.pages.haystack, rest);
+            self.pages = Pages::new(self.pages.search, self.pages.haystack, rest, LONG);
         }
         found
     }

@@ -1,11 +1,9 @@
 //! A search for leftmost matches, by the array of some of the patterns.
 use crate::declared::{LEFTMOST_FIRST, LEFTMOST_LONGEST};
 use crate::error::BuildError;
-use crate::library::{Page, Prepared};
+use crate::library::{Prepared, Reached};
 use crate::pieces::Pieces;
 use crate::standard::likely_late;
-#[cfg(feature = "std")]
-use crate::stream::Room;
 use crate::{Match, MatchKind, PatternID, Span};
 use alloc::vec::Vec;
 
@@ -70,21 +68,15 @@ impl Leftmost {
         Some(self.named(found))
     }
 
-    /// The first matches in a span, up to the room.
-    pub fn page(&self, haystack: &[u8], span: Span, room: &mut [Match]) -> Page {
-        let page = self.prepared.page(haystack, span, room);
+    /// Lists the first matches in a span, at most so many, in place of what was in the list.
+    pub fn page(&self, haystack: &[u8], span: Span, most: usize, found: &mut Vec<Match>) -> Reached {
+        let reached = self.prepared.page(haystack, span, most, found);
         if !self.numbers.is_empty() {
-            for found in &mut room[..page.written] {
+            for found in found {
                 *found = self.named(*found);
             }
         }
-        page
-    }
-
-    /// See [`Prepared::find_so_far`].
-    #[cfg(feature = "std")]
-    pub fn find_so_far(&self, haystack: &[u8], start: usize, more: bool, room: &mut Room) -> (usize, bool) {
-        self.prepared.find_so_far(haystack, start, more, room)
+        reached
     }
 
     /// A match with the number of its pattern among all patterns.

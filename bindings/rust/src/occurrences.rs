@@ -1,19 +1,26 @@
 //! Every occurrence, one after another.
-use crate::iterators::Room;
-use crate::library::{Page, Prepared};
+use crate::leftmost::Leftmost;
+use crate::library::{Prepared, Reached, FEW};
 use crate::{Input, Match, Span};
+use alloc::vec::Vec;
 use core::fmt;
 use core::iter::FusedIterator;
 
-/// The length of the parts that are searched, first and later.
+/// The length of the parts that are searched, first and later; and first in an anchored input, which has few matches.
 const FIRST_PART: usize = 256;
-const PART: usize = 4096;
+const FIRST_ANCHORED_PART: usize = 16;
+const PART: usize = 1 << 16;
+
+/// How many occurrences a page has at most, after the first one.
+const MANY: usize = 256;
 
 /// Where every occurrence is searched for: an array for that, and the length of the longest pattern.
 #[derive(Clone, Copy)]
 pub struct Every<'a> {
     pub prepared: &'a Prepared,
     pub longest: usize,
+    /// What finds the occurrence that ends first, if that is faster.
+    pub first: Option<&'a Leftmost>,
 }
 
 /// Every occurrence, of [`AhoCorasick::find_overlapping_iter`](crate::AhoCorasick::find_overlapping_iter).
@@ -87,8 +94,10 @@ struct Walk {
     /// Occurrences that end up to here are found: they are in the room, or were given before.
     reached: usize,
     part: usize,
-    room: Room,
-    written: usize,
+    /// How many occurrences the next page has at most.
+    most: usize,
+    page: Vec<Match>,
+    /// Those of the page up to here were given, or end in an earlier part.
     given: usize,
 }
 
@@ -99,19 +108,20 @@ impl Walk {
         if is_anchored {
             span.end = span.end.min(span.start.saturating_add(every.longest));
         }
-        Walk { span, is_anchored, reached: span.start, part: FIRST_PART, room: Room::new(), written: 0, given: 0 }
+        let part = if is_anchored { FIRST_ANCHORED_PART } else { FIRST_PART };
+        Walk { span, is_anchored, reached: span.start, part, most: FEW, page: Vec::new(), given: 0 }
     }
 
     #[inline]
     fn next(&mut self, every: Every<'_>, haystack: &[u8]) -> Option<Match> {
         loop {
-            while self.given == self.written {
+            while self.given == self.page.len() {
                 if self.reached == self.span.end {
                     return None;
                 }
                 self.turn(every, haystack);
             }
-            let found = self.room.places()[self.given];
+            let found = self.page[self.given];
             self.given += 1;
             if !self.is_anchored || found.start() == self.span.start {
                 return Some(found);
@@ -121,31 +131,37 @@ impl Walk {
 
     /// Finds the occurrences that end in the next part, or in as much of it as a page has room for.
     fn turn(&mut self, every: Every<'_>, haystack: &[u8]) {
-        if self.written > 0 && !self.room.is_allocated() {
-            self.room.grow();
+        if let Some(first) = every.first.filter(|_| self.reached == self.span.start) {
+            let found = first.find(haystack, self.span);
+            self.reached = found.map_or(self.span.end, |it| it.end() - 1);
+            if found.is_none() {
+                return;
+            }
         }
         let start = (self.reached + 1).saturating_sub(every.longest.max(1)).max(self.span.start);
         let end = self.reached.saturating_add(self.part).min(self.span.end);
         let page = self.fill(every, haystack, Span { start, end });
-        let found = &mut self.room.places()[..page.written];
-        put_longest_first(found);
-        self.given = found.partition_point(|it| it.end() <= self.reached);
+        put_longest_first(&mut self.page);
+        self.given = self.page.partition_point(|it| it.end() <= self.reached);
         // (more than the page has may end where its last one does)
-        self.reached = if page.is_last == 1 { end } else { page.next - 1 };
-        self.written = found.partition_point(|it| it.end() <= self.reached);
+        self.reached = if page.is_last { end } else { page.next - 1 };
+        self.page.truncate(self.page.partition_point(|it| it.end() <= self.reached));
         self.part = (2 * self.part).min(PART.max(every.longest.saturating_mul(4)));
+        if !page.is_last {
+            self.most = self.most.max(MANY);
+        }
     }
 
     /// Finds a page of occurrences in a span. It grows until it has all, or goes farther beyond `reached` than the span
     /// begins before it, so that not much is read again.
-    fn fill(&mut self, every: Every<'_>, haystack: &[u8], span: Span) -> Page {
+    fn fill(&mut self, every: Every<'_>, haystack: &[u8], span: Span) -> Reached {
         let least = 2 * self.reached - span.start;
         loop {
-            let page = every.prepared.overlapping_page(haystack, span, self.room.places());
-            if page.is_last == 1 || least + 1 < page.next {
+            let page = every.prepared.overlapping_page(haystack, span, self.most, &mut self.page);
+            if page.is_last || least + 1 < page.next {
                 return page;
             }
-            self.room.grow();
+            self.most = MANY.max(2 * self.most);
         }
     }
 }

@@ -1,6 +1,6 @@
 //! Replacing the matches in a text.
 use crate::searcher::done;
-use crate::{AhoCorasick, Match, MatchError};
+use crate::{AhoCorasick, Anchored, Match, MatchError};
 use alloc::string::String;
 use alloc::vec::Vec;
 
@@ -120,9 +120,10 @@ impl AhoCorasick {
     where
         F: FnMut(&Match, &str, &mut String) -> bool,
     {
+        self.check(Anchored::No)?;
         let mut at = 0;
         let is_text = |it: &Match| haystack.is_char_boundary(it.start()) && haystack.is_char_boundary(it.end());
-        for found in self.try_find_iter(haystack)?.filter(is_text) {
+        for found in self.find_iter(haystack).filter(is_text) {
             dst.push_str(&haystack[at..found.start()]);
             at = found.end();
             if !replace_with(&found, &haystack[found.range()], dst) {
@@ -159,8 +160,9 @@ impl AhoCorasick {
     where
         F: FnMut(&Match, &[u8], &mut Vec<u8>) -> bool,
     {
+        self.check(Anchored::No)?;
         let mut at = 0;
-        for found in self.try_find_iter(haystack)? {
+        for found in self.find_iter(haystack) {
             dst.extend_from_slice(&haystack[at..found.start()]);
             at = found.end();
             if !replace_with(&found, &haystack[found.range()], dst) {

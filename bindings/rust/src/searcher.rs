@@ -14,6 +14,9 @@ use crate::{
 use alloc::sync::Arc;
 use core::fmt;
 
+/// For so few patterns the search for the first occurrence is faster than the one for every occurrence.
+const FEW_PATTERNS: usize = 3;
+
 /// Searches for any number of patterns.
 ///
 /// Threads may share it. A clone is the same search, and takes no memory. The calls whose names begin with `try_` return
@@ -32,8 +35,8 @@ pub(crate) struct Parts {
     pub shortest: usize,
     pub longest: usize,
     pub leftmost: Leftmost,
-    /// Whether an iteration picks its matches from every occurrence, by the standard kind alone.
-    pub is_picked: bool,
+    /// Whether iterations without flags list pages of matches, since no pattern is long.
+    pub is_paged: bool,
     /// The patterns, of which `every` is built; or their lengths alone, if it is never built.
     pub pieces: Pieces,
     /// The array for every occurrence. By a leftmost kind matches of long patterns may be picked from them.
@@ -113,7 +116,11 @@ impl AhoCorasick {
     /// ```
     #[inline]
     pub fn find<'h, I: Into<Input<'h>>>(&self, input: I) -> Option<Match> {
-        done(self.try_find(input))
+        let input = input.into();
+        if self.is_plain(&input) {
+            return self.parts.leftmost.find(input.haystack(), input.searched());
+        }
+        done(self.try_find_by_flags(&input))
     }
 
     /// Like [`AhoCorasick::find`].
@@ -134,16 +141,19 @@ impl AhoCorasick {
     #[inline]
     pub fn try_find<'h, I: Into<Input<'h>>>(&self, input: I) -> Result<Option<Match>, MatchError> {
         let input = input.into();
-        self.check(input.get_anchored())?;
-        Ok(self.search(&input))
+        if self.is_plain(&input) {
+            return Ok(self.parts.leftmost.find(input.haystack(), input.searched()));
+        }
+        self.try_find_by_flags(&input)
     }
 
     /// All matches that do not overlap: first that of [`AhoCorasick::find`], and then the first after each match.
     ///
-    /// It allocates room for at most 1,024 matches, and none if there are few. By a leftmost kind with a pattern of more
-    /// than 1,024 bytes, it picks matches that lie close together from every occurrence. That may allocate 48 bytes for
-    /// each byte of the longest pattern, the room of [`AhoCorasick::find_overlapping_iter`], and the first time the array
-    /// for every occurrence. If memory for the bytes of the pattern or for the array is refused, it goes on without.
+    /// It allocates room for at most 1,024 matches, and none before the third one. By a leftmost kind with a pattern of
+    /// more than 1,024 bytes, it picks matches that lie close together from every occurrence. That may allocate 48 bytes
+    /// for each byte of the longest pattern, the room of [`AhoCorasick::find_overlapping_iter`], and the first time the
+    /// array for every occurrence. If memory for the bytes of the pattern or for the array is refused, it goes on without.
+    /// Earliest matches are then always picked from every occurrence, if there is memory for the array.
     ///
     /// # Panics
     ///
@@ -160,8 +170,10 @@ impl AhoCorasick {
     #[inline]
     pub fn find_iter<'a, 'h, I: Into<Input<'h>>>(&'a self, input: I) -> FindIter<'a, 'h> {
         let input = input.into();
-        done(self.check(input.get_anchored()));
-        self.matches(input)
+        if self.is_plain(&input) && self.parts.is_paged {
+            return FindIter::pages(&self.parts.leftmost, input.haystack(), input.searched());
+        }
+        done(self.try_matches(input))
     }
 
     /// Like [`AhoCorasick::find_iter`].
@@ -172,24 +184,43 @@ impl AhoCorasick {
     #[inline]
     pub fn try_find_iter<'a, 'h, I: Into<Input<'h>>>(&'a self, input: I) -> Result<FindIter<'a, 'h>, MatchError> {
         let input = input.into();
-        self.check(input.get_anchored())?;
-        Ok(self.matches(input))
+        if self.is_plain(&input) && self.parts.is_paged {
+            return Ok(FindIter::pages(&self.parts.leftmost, input.haystack(), input.searched()));
+        }
+        self.try_matches(input)
     }
 
-    /// All matches that do not overlap, in an input that was checked.
-    #[inline]
-    fn matches<'a, 'h>(&'a self, input: Input<'h>) -> FindIter<'a, 'h> {
-        if !self.is_plain(&input) {
-            FindIter::one_by_one(self, input)
-        } else if self.parts.is_picked {
-            // (the builder built the array)
-            FindIter::picked(FindOverlappingIter::new(done(self.every()), &input))
-        } else {
-            let pages = FindIter::pages(&self.parts.leftmost, input.haystack(), input.searched());
-            if self.parts.leftmost.is_fast() {
-                return pages;
+    /// All matches that do not overlap, where some flag is set or a pattern is long.
+    fn try_matches<'a, 'h>(&'a self, input: Input<'h>) -> Result<FindIter<'a, 'h>, MatchError> {
+        let (kind, is_anchored) = (self.parts.kind, input.get_anchored().is_anchored());
+        self.check(input.get_anchored())?;
+        Ok(match (kind, input.get_earliest()) {
+            (MatchKind::Standard, _) if !is_anchored => {
+                FindIter::picked(FindOverlappingIter::new(self.every()?, &input))
             }
-            FindIter::long(self, pages)
+            (MatchKind::Standard, _) => FindIter::one_by_one(self, input),
+            (_, true) => self.earliest_matches(input),
+            (_, false) if is_anchored => FindIter::adjacent(self, &input),
+            (_, false) => self.leftmost_in(input.haystack(), input.searched()),
+        })
+    }
+
+    /// The matches of a leftmost kind in a span.
+    pub(crate) fn leftmost_in<'a, 'h>(&'a self, haystack: &'h [u8], span: Span) -> FindIter<'a, 'h> {
+        if self.parts.is_paged {
+            FindIter::pages(&self.parts.leftmost, haystack, span)
+        } else {
+            FindIter::long(self, &self.parts.leftmost, haystack, span)
+        }
+    }
+
+    /// The earliest matches where the kind is a leftmost one. If a pattern is long, they are picked from every occurrence,
+    /// unless the array for that can't be built.
+    fn earliest_matches<'a, 'h>(&'a self, input: Input<'h>) -> FindIter<'a, 'h> {
+        let every = if self.parts.is_paged { None } else { self.built().ok() };
+        match every.filter(|_| !input.get_anchored().is_anchored()) {
+            Some(every) => FindIter::picked(FindOverlappingIter::new(every, &input)),
+            None => FindIter::one_by_one(self, input),
         }
     }
 
@@ -207,9 +238,9 @@ impl AhoCorasick {
     /// Every occurrence, also overlapping and nested ones: ordered by ends, at one end the longest first, and of equal
     /// patterns the first in the list.
     ///
-    /// It allocates once, for 64 matches, and not at all if there are few; or for more, if more occur within twice the
-    /// length of the longest pattern. The first search for every occurrence builds a second array, if the builder did
-    /// not. It is about as large as the first one, and takes as much time.
+    /// It allocates room for at most 256 matches, and none before the first one; or for more, if more occur within twice
+    /// the length of the longest pattern. The first search for every occurrence builds a second array, if the builder
+    /// did not. It is about as large as the first one, and takes as much time.
     ///
     /// # Panics
     ///
@@ -224,6 +255,7 @@ impl AhoCorasick {
     /// assert_eq!(found, [Match::must(1, 0..3), Match::must(0, 0..6), Match::must(2, 3..6)]);
     /// # Ok::<(), aho_corasick::BuildError>(())
     /// ```
+    #[inline]
     pub fn find_overlapping_iter<'a, 'h, I: Into<Input<'h>>>(&'a self, input: I) -> FindOverlappingIter<'a, 'h> {
         let input = input.into();
         FindOverlappingIter::new(done(self.every_of(&input)), &input)
@@ -243,13 +275,15 @@ impl AhoCorasick {
     }
 
     /// The search for every occurrence in an input, if one is made.
+    #[inline]
     fn every_of(&self, input: &Input<'_>) -> Result<Every<'_>, MatchError> {
         self.check(input.get_anchored())?;
         let every = self.every()?;
         if input.get_anchored().is_anchored() {
             return Err(MatchError::invalid_input_anchored());
         }
-        Ok(every)
+        let first = Some(&self.parts.leftmost).filter(|_| self.parts.patterns_len <= FEW_PATTERNS);
+        Ok(Every { first, ..every })
     }
 
     /// Finds the next occurrence, in the order of [`AhoCorasick::find_overlapping_iter`]; in an anchored input the next
@@ -302,28 +336,25 @@ impl AhoCorasick {
         }
     }
 
-    /// Whether the match is the one that `leftmost` finds.
+    /// Whether the search is made, and its match is the one that `leftmost` finds.
     #[inline]
     fn is_plain(&self, input: &Input<'_>) -> bool {
         let is_earliest = input.get_earliest() && self.parts.kind != MatchKind::Standard;
-        !is_earliest && !input.get_anchored().is_anchored()
+        !is_earliest && !input.get_anchored().is_anchored() && self.parts.start_kind != StartKind::Anchored
     }
 
-    /// The first match of an input that was checked.
-    #[inline]
-    pub(crate) fn search(&self, input: &Input<'_>) -> Option<Match> {
-        if self.is_plain(input) {
-            self.parts.leftmost.find(input.haystack(), input.searched())
-        } else {
-            self.search_by_flags(input)
-        }
+    /// The first match, where that is not so.
+    fn try_find_by_flags(&self, input: &Input<'_>) -> Result<Option<Match>, MatchError> {
+        self.check(input.get_anchored())?;
+        Ok(self.search_by_flags(input))
     }
 
-    /// The same if it is anchored, or a leftmost kind is to find the earliest match.
-    fn search_by_flags(&self, input: &Input<'_>) -> Option<Match> {
+    /// The first match of an input that was checked, which is anchored, or for which a leftmost kind is to find the
+    /// earliest match.
+    pub(crate) fn search_by_flags(&self, input: &Input<'_>) -> Option<Match> {
         let (mut span, is_anchored) = (input.searched(), input.get_anchored().is_anchored());
-        if self.parts.kind == MatchKind::Standard {
-            return FindOverlappingIter::new(done(self.every()), input).next();
+        if let Some(every) = self.every_for_earliest(input) {
+            return FindOverlappingIter::new(every, input).next();
         }
         if is_anchored {
             span.end = span.end.min(span.start.saturating_add(self.parts.longest));
@@ -349,7 +380,21 @@ impl AhoCorasick {
         Some(earliest)
     }
 
+    /// The search for every occurrence, if the match that is searched for is the one that ends first, and if by a leftmost
+    /// kind the array is built.
+    fn every_for_earliest(&self, input: &Input<'_>) -> Option<Every<'_>> {
+        let longest = self.parts.longest;
+        match self.parts.kind {
+            MatchKind::Standard => Some(done(self.every())),
+            _ if input.get_earliest() => {
+                self.parts.every.get().map(|prepared| Every { prepared, longest, first: None })
+            }
+            _ => None,
+        }
+    }
+
     /// The search for every occurrence, which the first call builds.
+    #[inline]
     pub(crate) fn every(&self) -> Result<Every<'_>, MatchError> {
         if self.parts.kind != MatchKind::Standard {
             return Err(MatchError::unsupported_overlapping(self.parts.kind));
@@ -358,33 +403,38 @@ impl AhoCorasick {
     }
 
     /// The same by any kind.
+    #[inline]
     fn built(&self) -> Result<Every<'_>, BuildError> {
         let Parts { ignore_case, longest, ref pieces, ref every, .. } = *self.parts;
         let prepared = every.get_or_try(|| Prepared::overlapping(ignore_case, pieces))?;
-        Ok(Every { prepared, longest })
+        Ok(Every { prepared, longest, first: None })
     }
 
-    /// Finds the first known matches from a place on, up to the wanted number, whatever follows the haystack, or if
-    /// nothing does. Returns where the search goes on, and whether no more are known.
+    /// Lists the first known matches from a place on, whatever follows the haystack, or if nothing does; in place of what
+    /// was in the list. Returns where the search goes on, and whether no more are known.
+    ///
+    /// With a long pattern it lists as many as that has bytes, if there are so many: a call may look up a hundred times the
+    /// length of the pattern for its first matches.
     #[cfg(feature = "std")]
-    pub(crate) fn find_so_far(&self, haystack: &[u8], at: usize, more: bool, room: &mut Room) -> (usize, bool) {
-        if self.parts.kind != MatchKind::Standard {
-            return self.parts.leftmost.find_so_far(haystack, at, more, room);
-        }
-        let rest = Input::new(haystack).range(at..);
-        if self.parts.is_picked {
-            room.extend(self.find_iter(rest).take(MOST));
+    pub(crate) fn find_so_far(&self, haystack: &[u8], at: usize, more: bool, found: &mut Room) -> (usize, bool) {
+        let Parts { longest, is_paged, .. } = *self.parts;
+        let (rest, most) = (Input::new(haystack).range(at..), if is_paged { MOST } else { MOST.max(longest) });
+        if is_paged {
+            self.parts.leftmost.page(haystack, rest.searched(), most, found);
         } else {
-            room.resize(MOST, Match::ZERO);
-            let page = self.parts.leftmost.page(haystack, rest.searched(), room);
-            room.truncate(page.written);
+            found.clear();
+            found.extend(self.find_iter(rest).take(most));
         }
         // (what ends first does so whatever follows)
-        let known = room.last().map_or(at, |it| it.end());
-        let kept = if more { self.parts.longest.saturating_sub(1) } else { 0 };
-        match room.len() {
-            MOST => (known, false),
-            _ => (known.max(haystack.len().saturating_sub(kept)), true),
+        if more && self.parts.kind != MatchKind::Standard {
+            found.truncate(found.partition_point(|it| it.start() + longest <= haystack.len()));
+        }
+        let known = found.last().map_or(at, |it| it.end());
+        let kept = if more { longest.saturating_sub(1) } else { 0 };
+        if found.len() == most {
+            (known, false)
+        } else {
+            (known.max(haystack.len().saturating_sub(kept)), true)
         }
     }
 

@@ -61,6 +61,8 @@ fn keep_without_prefix(pieces: &Pieces, sorted: &mut Vec<u32>) {
 struct Known<'p> {
     pieces: &'p Pieces,
     sorted: &'p [u32],
+    /// The head of each.
+    heads: Vec<u64>,
     /// How many bytes of each pattern are hashed.
     width: usize,
     /// A bit for each hash: whether a pattern has it.
@@ -72,7 +74,9 @@ impl<'p> Known<'p> {
         let words = (sorted.len() / 4).next_power_of_two().clamp(4, 1 << 16);
         let mut hashes = with_room(words)?;
         hashes.resize(words, 0);
-        let mut known = Known { pieces, sorted, width: pieces.shortest.min(4), hashes };
+        let mut heads = with_room(sorted.len())?;
+        heads.extend(sorted.iter().map(|it| head(pieces.get(*it))));
+        let mut known = Known { pieces, sorted, heads, width: pieces.shortest.min(4), hashes };
         for number in sorted {
             let (word, bit) = known.place(pieces.get(*number));
             known.hashes[word] |= bit;
@@ -110,7 +114,11 @@ impl<'p> Known<'p> {
 
     /// Whether the text begins with a pattern: then none lies between that and the text in the order.
     fn is_known(&self, text: &[u8]) -> bool {
-        let after = self.sorted.partition_point(|it| self.pieces.get(*it) <= text);
+        // (the heads are in the order of the patterns, and decide most comparisons)
+        let head = head(text);
+        let first = self.heads.partition_point(|it| *it < head);
+        let alike = self.heads[first..].partition_point(|it| *it == head);
+        let after = first + self.sorted[first..first + alike].partition_point(|it| self.pieces.get(*it) <= text);
         after.checked_sub(1).map_or(false, |it| text.starts_with(self.pieces.get(self.sorted[it])))
     }
 }

@@ -1,5 +1,5 @@
 //! Memory that matches of long patterns need, and what happens if it is refused.
-use aho_corasick::{AhoCorasick, Match, MatchKind};
+use aho_corasick::{AhoCorasick, Input, Match, MatchKind};
 use std::alloc::{GlobalAlloc, Layout, System};
 use std::sync::atomic::{AtomicUsize, Ordering};
 
@@ -40,14 +40,20 @@ unsafe impl GlobalAlloc for Counted {
 #[global_allocator]
 static MEMORY: Counted = Counted;
 
+/// What a call answers if larger requests for memory than `most` are refused.
+fn refusing<T>(most: usize, call: impl FnOnce() -> T) -> T {
+    LARGEST.store(0, Ordering::Relaxed);
+    MOST.store(most, Ordering::Relaxed);
+    let answer = call();
+    MOST.store(usize::MAX, Ordering::Relaxed);
+    answer
+}
+
 /// The matches in a text after the first ones, which build the array for every occurrence.
 fn rest_of<'h>(searcher: &AhoCorasick, text: &'h str, given: usize, most: usize) -> Vec<Match> {
     let (mut found, mut rest) = (searcher.find_iter(text), Vec::with_capacity(text.len()));
     assert_eq!(found.by_ref().take(given).count(), given);
-    LARGEST.store(0, Ordering::Relaxed);
-    MOST.store(most, Ordering::Relaxed);
-    rest.extend(found);
-    MOST.store(usize::MAX, Ordering::Relaxed);
+    refusing(most, || rest.extend(found));
     rest
 }
 
@@ -59,6 +65,13 @@ fn matches_of_long_patterns() {
     // (with a gap of many times the longest pattern, in which nothing is kept)
     let text = (("a".repeat(49) + "b").repeat(1000) + &"x".repeat(1_000_000)).repeat(2);
     let wanted: Vec<Match> = text.match_indices('b').map(|(at, _)| Match::must(1, at..at + 1)).skip(6).collect();
+    // (while the array for every occurrence can't be built, earliest matches are searched for one by one)
+    let (before, ends) = (searcher.memory_usage(), (1..=100).map(|it| 50 * it).collect::<Vec<usize>>());
+    let earliest = || searcher.find_iter(Input::new(&text[..5_000]).earliest(true)).map(|it| it.end()).collect();
+    assert_eq!(refusing::<Vec<usize>>(1 << 15, earliest), ends);
+    assert_eq!(searcher.memory_usage(), before);
+    assert_eq!(refusing::<Vec<usize>>(usize::MAX, earliest), ends);
+    assert!(before < searcher.memory_usage());
     assert_eq!(rest_of(&searcher, &text, 6, usize::MAX), wanted);
     let most = LARGEST.load(Ordering::Relaxed);
     assert!(24 * longest < most && most <= 48 * longest, "{most}");
