@@ -3,7 +3,7 @@ use crate::made::{first_of, longest_of};
 use literal_examples::frequencies::frequencies;
 use literal_examples::keywords::{find_from, is_clean};
 use literal_examples::lexer::lex;
-use literal_examples::redact::redact;
+use literal_examples::redact::{redact, redact_stream};
 use literal_examples::router::route;
 use literal_examples::tokens::{Token, tokens};
 use literal_examples::word_list::WordList;
@@ -48,6 +48,15 @@ fn redacts_words(rt: HostRuntime) -> Result<(), Fail> {
     let words = first_of(rt.alloc(), &[b"apple", b"maple"])?;
     let text = redacted(rt.alloc(), &words)?;
     assert!(rt; text.as_slice() == b"***** or *****?".as_slice());
+    Ok(())
+}
+
+#[test]
+fn redacts_a_stream(rt: HostRuntime) -> Result<(), Fail> {
+    let words = first_of(rt.alloc(), &[b"apple", b"maple"])?;
+    let (mut text, mut written) = (b"Apple or maple?".as_slice(), Vec::new(rt.alloc()));
+    redact_stream(rt.alloc(), &words, &mut text, &mut written)?;
+    assert!(rt; written.as_slice() == b"***** or *****?".as_slice());
     Ok(())
 }
 

@@ -1,6 +1,6 @@
 -- A text whose matches are rewritten by calls that write what a function of the match gives.
-use Rattle.std.proofs.Common.{◌≡◌, ℕ, ◌-◌, ◌≤◌, ◌++◌, [], ◌∷◌, ◌∙◌, Err, IfErr, List, Ok, OnOk, Option, Result, ap}
-use Rattle.std.proofs.Common.{append-nil}
+use Rattle.std.proofs.Common.{◌≡◌, ℕ, ◌-◌, ◌<◌, ◌≤◌, ◌++◌, [], ◌∷◌, ◌∙◌, Err, IfErr, List, Ok, OnOk, Option, Result, ap}
+use Rattle.std.proofs.Common.{append-nil, refl}
 use Rattle.std.proofs.Common.{append_assoc, arith, length, length-append, drop, slice_range, subst, sym, take}
 use Rattle.std.proofs.KnownBytes.{Appends-trans}
 use Rattle.std.specs.Bool.{⊤}
@@ -43,11 +43,12 @@ replaced_later bytes_for text from to (found ∷ more) later within begins =
 
 module _ {F W : Type 0} (contents : W → Option (List ℕ))
     (step : F → MatchValue → Bor (List ℕ) → MutBor W → Result ⊤ Error → MutBor W → F → Type 0)
-    (bytes_for : MatchValue → List ℕ) (holds : F → Type 0)
+    (bytes_for : MatchValue → List ℕ) (holds : F → Type 0) (text : List ℕ)
     (writes : (f : F) (found : MatchValue) (bytes : Bor (List ℕ)) (before behind : MutBor W) (next : F) → holds f
+    → found.start < found.end → found.end ≤ length text → bytes.now ≡ slice_range text found.start found.end
     → step f found bytes before (Ok tt) behind next
     → holds next × Appends (contents before.now) (contents behind.now) (bytes_for found))
-    (text : List ℕ) (at : ℕ) (written : Option (List ℕ))
+    (at : ℕ) (written : Option (List ℕ))
   where
     -- what the calls wrote
     record AreWritten (first : RewritingValue F) (matches : List MatchValue) : Type 0 where
@@ -76,7 +77,8 @@ module _ {F W : Type 0} (contents : W → Option (List ℕ))
         }
     are_written first (found ∷ more) last held run upto inside rest =
         let one = run.1 in
-        let called = writes first.replace found one.bytes one.before one.behind run.0.replace held one.calls in
+        let called = writes first.replace found one.bytes one.before one.behind run.0.replace held one.some
+        one.inside one.are_matched one.calls in
         let next = are_written run.0 more last called.0 run.2 upto inside rest in
         let between = slice_range text first.at found.start in
         let some = one.some in
@@ -98,6 +100,37 @@ module _ {F W : Type 0} (contents : W → Option (List ℕ))
               (sym (part_longer text behind first.at found.start (omega (arith, one.inside)) one.after))));
         }
 
+-- calls that write what a function gives for each match write the text with each match replaced by this
+module _ {F W : Type 0} {contents : W → Option (List ℕ)}
+    {step : F → MatchValue → Bor (List ℕ) → MutBor W → Result ⊤ Error → MutBor W → F → Type 0}
+    {AreMatches : List ℕ → ℕ → List MatchValue → Type 0} {reach : ℕ} {replace : F}
+    {unread left held written : Option (List ℕ)} where
+  pub all_written : (all : RewritesAllOf contents step AreMatches reach replace unread left held written)
+      → (bytes_for : MatchValue → List ℕ) → (holds : F → Type 0) → holds replace
+      → ((f : F) (found : MatchValue) (bytes : Bor (List ℕ)) (before behind : MutBor W) (next : F) → holds f
+      → found.start < found.end → found.end ≤ length all.text
+      → bytes.now ≡ slice_range all.text found.start found.end
+      → step f found bytes before (Ok tt) behind next
+      → holds next × Appends (contents before.now) (contents behind.now) (bytes_for found))
+      → Appends held written (replaced_by bytes_for all.text 0 all.matches)
+  all_written all bytes_for holds holds_first writes =
+      let done = all.are_rewritten in
+      let made = are_written contents step bytes_for holds all.text writes (length all.text) written _ all.matches
+      done.last holds_first done.calls done.upto done.inside done.rest in
+      subst (Appends held written) (whole all.text all.matches made.out (made.is_replaced [] [] tt)) made.appended
+    where
+      whole : (text : List ℕ) (matches : List MatchValue) (out : List ℕ)
+          → out ++ replaced_by bytes_for (text ++ []) (length text) []
+          ≡ replaced_by bytes_for (text ++ []) 0 (matches ++ []) → out ≡ replaced_by bytes_for text 0 matches
+      whole text matches out is =
+          let none : length text - length text ≡ 0 = omega arith in
+          let here = subst (λ (t : List ℕ). out ++ replaced_by bytes_for t (length text) []
+          ≡ replaced_by bytes_for t 0 (matches ++ [])) (append-nil text) is in
+          let empty : slice_range text (length text) (length text) ≡ [] = ap (λ n. take n (drop (length text) text))
+          none in
+          sym (append-nil out) ∙ (ap (λ l. out ++ l) (sym empty)
+          ∙ (here ∙ ap (replaced_by bytes_for text 0) (append-nil matches)))
+
 module _ {F W : Type 0} (contents : W → Option (List ℕ))
     (step : F → MatchValue → Bor (List ℕ) → MutBor W → Result ⊤ Error → MutBor W → F → Type 0)
     (replacements : List (List ℕ)) (holds : F → Type 0)
@@ -116,41 +149,28 @@ module _ {F W : Type 0} (contents : W → Option (List ℕ))
     -- calls that write the replacement of the match's pattern replace each match
     pub all_replaced : RewritesAllOf contents step AreMatches reach replace unread left held written
         → ReplacesAll AreMatches patterns reach replacements unread left held written
-    all_replaced all =
-        let done = all.are_rewritten in
-        let made = are_written contents step replacement holds writes all.text (length all.text) written _ all.matches
-        done.last held_first done.calls done.upto done.inside done.rest in
-        record {
-          text = all.text;
-          answer = made.out;
-          reads = all.reads;
-          end = all.end;
-          is_replaced = record {
-            one_for_each = one_for_each;
-            matches = all.matches;
-            are_matches = all.are_matches;
-            is_replaced = whole all.text all.matches made.out (made.is_replaced [] [] tt);
-          };
-          writes = made.appended;
-        }
-      where
-        whole : (text : List ℕ) (matches : List MatchValue) (out : List ℕ)
-            → out ++ replaced_by replacement (text ++ []) (length text) []
-            ≡ replaced_by replacement (text ++ []) 0 (matches ++ []) → out ≡ replaced_by replacement text 0 matches
-        whole text matches out is =
-            let none : length text - length text ≡ 0 = omega arith in
-            let here = subst (λ (t : List ℕ). out ++ replaced_by replacement t (length text) []
-            ≡ replaced_by replacement t 0 (matches ++ [])) (append-nil text) is in
-            let empty : slice_range text (length text) (length text) ≡ [] = ap (λ n. take n (drop (length text) text))
-            none in
-            sym (append-nil out) ∙ (ap (λ l. out ++ l) (sym empty)
-            ∙ (here ∙ ap (replaced_by replacement text 0) (append-nil matches)))
+    all_replaced all = record {
+      text = all.text;
+      answer = replaced_by replacement all.text 0 all.matches;
+      reads = all.reads;
+      end = all.end;
+      is_replaced = record {
+        one_for_each = one_for_each;
+        matches = all.matches;
+        are_matches = all.are_matches;
+        is_replaced = refl;
+      };
+      writes = all_written all replacement holds held_first
+          (λ f found bytes before behind next held _ _ _. writes f found bytes before behind next held);
+    }
 
     pub part_replaced : RewritesPartOf contents step AreMatches reach replace unread left held written
         → ReplacesPart AreMatches patterns reach replacements unread left held written
     part_replaced part =
         let done = part.are_rewritten in
-        let made = are_written contents step replacement holds writes part.text part.at written _ part.matches done.last
+        let made = are_written contents step replacement holds part.text
+        (λ f found bytes before behind next held _ _ _. writes f found bytes before behind next held) part.at written _
+        part.matches done.last
         held_first done.calls done.upto done.inside done.rest in
         record {
           text = part.text;
