@@ -26,7 +26,7 @@ returns g c =
           ∙ length_part all.text found.start found.end (omega (arith, some)) inside in
           (
             tt,
-            subst (λ n. Appends (g.W.Write.contents before.now) (g.W.Write.contents behind.now) (replicate {A = ℕ} n 42))
-                len written,
+            subst (λ n. Appends (g.W.Write.contents before.now) (g.W.Write.contents behind.now)
+                (replicate {A = ℕ} n 42)) len written,
           ));
     }) c.replace_stream_with.ensures.ok
