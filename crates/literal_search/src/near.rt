@@ -238,8 +238,8 @@ impl<'t> Backward<'t> {
     }
 
     /// Looks at the first candidate alone, and then walks over one short piece from there on, before whole blocks are
-    /// walked over. It does nothing if there is no scan for candidates, if the scan passed over many bytes, or if several
-    /// patterns have many states.
+    /// walked over. It does nothing if there is no scan for candidates, if the scan passed over many bytes, or if
+    /// several patterns have many states.
     #[inline(always)]
     pub(crate) fn look_first(
         &self,
