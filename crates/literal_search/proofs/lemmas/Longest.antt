@@ -10,7 +10,8 @@ longest_is [] i = omega arith
 longest_is (bytes ∷ more) zero = omega arith
 longest_is (bytes ∷ more) (suc i) = omega (arith, longest_is more i)
 
-pub longest_only : (patterns : List (List ℕ)) → length patterns ≡ 1 → longest_of patterns ≡ length (pattern_at patterns 0)
+pub longest_only : (patterns : List (List ℕ)) → length patterns ≡ 1
+    → longest_of patterns ≡ length (pattern_at patterns 0)
 longest_only [] one = absurd (omega arith)
 longest_only (bytes ∷ []) one = omega arith
 longest_only (bytes ∷ other ∷ more) one = absurd (omega arith)
