@@ -3,8 +3,7 @@ use Rattle.std.proofs.Common.{◌≡◌, ◌≢◌, ℕ, ◌+◌, ◌-◌, ◌<�
 use Rattle.std.proofs.Common.{[], Bool, eqb, false, get_or, inl, inr, min, refl, subst, sym, true}
 use Rattle.std.proofs.lemmas.Bool.{cases_lt, eq-eqb, eqb-true, le-ltb, lt-ltb}
 use Rattle.std.proofs.lemmas.Bool.Decides.{nat_tests}
-use Rattle.std.proofs.lemmas.Nat.{le_or_l, le_or_r}
-use Rattle.std.specs.Int.Bits.{and_zero_l, and_zero_r, or_zero_l}
+use Rattle.std.specs.Int.Bits.{and_zero_l, and_zero_r}
 use Rattle.literal_base.specs.Occurs.{IsValidSpan}
 use Rattle.literal_base.specs.declared.search.Span.{Span}
 use Rattle.literal_fingerprints.specs.RarePairs.{HasBytes, HasPair, HasPairOfEarlier, NoPairBegins, first_offset}

@@ -1,4 +1,4 @@
-use Rattle.std.proofs.Common.{◌≡◌, ◌+◌, ◌-◌, ◌<◌, ◌≤◌, ◌∙◌, arith, get_or, inl, inr, rules, subst, sym, ℕ}
+use Rattle.std.proofs.Common.{◌≡◌, ◌+◌, ◌-◌, ◌≤◌, arith, inl, inr, rules, subst}
 use Rattle.std.proofs.lemmas.Bool.{cases_lt}
 use Rattle.literal_fingerprints.proofs.lemmas.Hits.{back_hits, has_earlier, has_pair, no_pair_begins, none_by}
 use Rattle.literal_fingerprints.proofs.lemmas.Hits.{none_by_rest, none_more}
