@@ -1,5 +1,5 @@
 //! Vectors of 16 bytes, lane by lane.
-ghost use Rattle.std.specs.Prelude.{◌≡◌, ◌≢◌, ℕ, ◌+◌, ◌-◌, ◌/◌, ◌%◌, ◌<◌, ◌≤◌, length, slice_index, bit_and, bit_or};
+ghost use Rattle.std.specs.Prelude.{◌≡◌, ◌≢◌, ℕ, ◌+◌, ◌-◌, ◌/◌, ◌%◌, ◌<◌, ◌≤◌, length, slice_index, bit_and};
 ghost use Rattle.std.specs.Prelude.{take};
 ghost use Rattle.literal_fingerprints.specs.FingerprintsValue.{buckets_of};
 ghost use Rattle.literal_fingerprints.specs.Inside.Nibbles.{half_table};
@@ -60,14 +60,6 @@ pub fn both(one: u8x16, other: u8x16) -> u8x16
     ensures { HasLanes result (λ k. bit_and (slice_index one k) (slice_index other k)) }
 {
     one & other
-}
-
-/// The bits that either has.
-#[inline(always)]
-pub fn either(one: u8x16, other: u8x16) -> u8x16
-    ensures { HasLanes result (λ k. bit_or (slice_index one k) (slice_index other k)) }
-{
-    one | other
 }
 
 /// 255 for each byte that is the rare one, once the bits of the mask are set, otherwise 0.

@@ -2,13 +2,16 @@
 ghost use Rattle.std.specs.Prelude.{◌≡◌, ℕ, ◌+◌, ◌-◌, ◌*◌, ◌<◌, ◌≤◌, List, MatchOption};
 ghost use Rattle.std.specs.Prelude.{◌≢◌, length, max, min, slice_index, true};
 ghost use Rattle.literal_base.specs.Occurs.{IsValidSpan, same_byte};
-ghost use Rattle.literal_fingerprints.specs.Inside.Hits.{AreHits, hit, pair_hit_at};
-ghost use Rattle.literal_fingerprints.specs.Inside.Lanes.{HasLanes};
+ghost use Rattle.literal_fingerprints.specs.Inside.Hits.{AreBackHits, AreHits, AreWideHits, hit, pair_hit_at};
+ghost use Rattle.literal_fingerprints.specs.Inside.Lanes.{HasLanes, HasWide};
 ghost use Rattle.literal_fingerprints.specs.RarePairs.{IsPairOf, IsRare, NoPairBegins, PairMayStop, SecondMayStop};
 ghost use Rattle.literal_fingerprints.specs.RarePairs.{has_between, pair_in, second_offset};
 
-use crate::lanes::{LANES, both, byte_at, either, load, shifted, wanted, zeros_before};
+use crate::lanes::{LANES, both, byte_at, load, shifted, wanted, zeros_before};
 use crate::nibbles::other_case;
+use crate::wide::{
+    WIDE, back_half, both_wide, load_wide, shifted_wide, twice, wanted_wide, zeros_before_wide,
+};
 use literal_base::Span;
 use literal_base::byte_frequencies::freq_rank;
 use literal_base::count::Tally;
@@ -104,6 +107,63 @@ impl Compared {
         let ends = both(shifted(apart, before.first, self.first), self.second);
         if by_three {
             both(ends, shifted(apart - 1, before.between, self.between))
+        } else {
+            ends
+        }
+    }
+}
+
+/// The same for 32 bytes.
+#[derive(Clone, Copy)]
+struct WideCompared {
+    first: u8x32,
+    between: u8x32,
+    second: u8x32,
+}
+
+impl WideCompared {
+    /// 16 bytes twice.
+    #[inline(always)]
+    fn twice(half: Compared) -> WideCompared
+        ensures { (pair : RarePair) (first_mask second_mask : ℕ) (haystack : List ℕ) (start at : ℕ)
+            → AreHits half pair first_mask second_mask haystack start at
+            → AreBackHits result pair first_mask second_mask haystack start at }
+    {
+        WideCompared {
+            first: twice(half.first),
+            between: twice(half.between),
+            second: twice(half.second),
+        }
+    }
+
+    /// The last 16 bytes.
+    #[inline(always)]
+    fn back(self) -> Compared
+        ensures { (pair : RarePair) (first_mask second_mask : ℕ) (haystack : List ℕ) (start at : ℕ)
+            → AreBackHits self pair first_mask second_mask haystack start at
+            → AreHits result pair first_mask second_mask haystack start at }
+    {
+        Compared {
+            first: back_half(self.first),
+            between: back_half(self.between),
+            second: back_half(self.second),
+        }
+    }
+
+    /// Lanes that are not 0 where the bytes of a pair are, as [`Compared::pairs_after`] says.
+    #[inline(always)]
+    fn pairs_after(self, before: WideCompared, by_three: bool, apart: usize) -> u8x32
+        requires near { apart ≤ 3 }
+        requires far { by_three ≡ true → 2 ≤ apart }
+        ensures { (pair : RarePair) (first_mask second_mask : ℕ) (haystack : List ℕ) (start at : ℕ)
+            → AreBackHits before pair first_mask second_mask haystack start at
+            → AreWideHits self pair first_mask second_mask haystack start (at + 16)
+            → HasWide result (λ k. pair_hit_at pair first_mask second_mask by_three apart haystack start
+            (at + (16 - apart + k))) }
+    {
+        let ends = both_wide(shifted_wide(apart, before.first, self.first), self.second);
+        if by_three {
+            both_wide(ends, shifted_wide(apart - 1, before.between, self.between))
         } else {
             ends
         }
@@ -239,25 +299,23 @@ impl RarePair {
         if passed < LANES {
             return span.start + passed.saturating_sub(behind);
         }
-        let mut before = here;
+        let mut before = WideCompared::twice(here);
         let mut at = span.start + LANES;
-        let last = span.end.saturating_sub(2 * LANES);
+        let last = span.end.saturating_sub(WIDE);
         while at <= last {
-            let one = self.compare(first_mask, second_mask, load(haystack, at, tally));
-            let two = self.compare(first_mask, second_mask, load(haystack, at + LANES, tally));
-            let front = one.pairs_after(before, by_three, apart);
-            let back = two.pairs_after(one, by_three, apart);
-            if zeros_before(either(front, back)) < LANES {
-                return at + zeros_before_both(front, back) - behind;
+            let wide = self.compare_wide(first_mask, second_mask, load_wide(haystack, at, tally));
+            let stop = zeros_before_wide(wide.pairs_after(before, by_three, apart));
+            if stop < WIDE {
+                return at + stop - behind;
             }
-            before = two;
-            at += 2 * LANES;
+            before = wide;
+            at += WIDE;
         }
         if span.end - at < LANES {
             return self.scan_rest(second_mask, behind, haystack, at, span, tally);
         }
         let last = self.compare(first_mask, second_mask, load(haystack, at, tally));
-        let passed = zeros_before(last.pairs_after(before, by_three, apart));
+        let passed = zeros_before(last.pairs_after(before.back(), by_three, apart));
         if passed < LANES {
             return at + passed - behind;
         }
@@ -312,6 +370,19 @@ impl RarePair {
             second: wanted(bytes, self.second.byte, second_mask),
         }
     }
+
+    /// The same for 32 bytes.
+    #[inline(always)]
+    fn compare_wide(&self, first_mask: u8, second_mask: u8, bytes: u8x32) -> WideCompared
+        ensures { (haystack : List ℕ) (start at : ℕ) → start ≤ at → HasWide bytes (λ k. slice_index haystack (at + k))
+            → AreWideHits result self.now first_mask second_mask haystack start (at + 16) }
+    {
+        WideCompared {
+            first: wanted_wide(bytes, self.first.byte, first_mask),
+            between: wanted_wide(bytes, self.between, first_mask),
+            second: wanted_wide(bytes, self.second.byte, second_mask),
+        }
+    }
 }
 
 /// How many first bytes of a pattern are skipped when its pair is chosen: none if a pair of the first ones is rare,
@@ -342,23 +413,6 @@ fn pair_rank(pattern: &[u8], skipped: usize) -> usize
     let rest = &pattern[skipped..];
     let (first, second) = rarest_two(rest);
     rank_at(rest, first) + rank_at(rest, second)
-}
-
-/// How many lanes of two vectors come before the first that is not 0.
-#[inline(always)]
-fn zeros_before_both(front: u8x16, back: u8x16) -> usize
-    ensures few { result ≤ 32 }
-    ensures front { (k : ℕ) → k < result → k < 16 → slice_index front k ≡ 0 }
-    ensures back { (k : ℕ) → 16 + k < result → slice_index back k ≡ 0 }
-    ensures stops_front { result < 16 → slice_index front result ≢ 0 }
-    ensures stops_back { 16 ≤ result → result < 32 → slice_index back (result - 16) ≢ 0 }
-    ensures none { 32 ≤ result → (k : ℕ) → k < 16 → slice_index front k ≡ 0 × (slice_index back k ≡ 0) }
-{
-    let passed = zeros_before(front);
-    if passed < LANES {
-        return passed;
-    }
-    LANES + zeros_before(back)
 }
 
 /// The offsets of the first and the last of two or three rare bytes of a pattern. They are equal in a pattern of one

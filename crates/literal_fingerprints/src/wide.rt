@@ -1,5 +1,6 @@
 //! Vectors of 32 bytes, lane by lane.
-ghost use Rattle.std.specs.Prelude.{◌≡◌, ◌≢◌, ℕ, ◌+◌, ◌/◌, ◌%◌, ◌<◌, ◌≤◌, length, slice_index, bit_and};
+ghost use Rattle.std.specs.Prelude.{◌≡◌, ◌≢◌, ℕ, ◌+◌, ◌-◌, ◌/◌, ◌%◌, ◌<◌, ◌≤◌, length, slice_index, bit_and};
+ghost use Rattle.literal_fingerprints.specs.Inside.Hits.{hit};
 ghost use Rattle.literal_fingerprints.specs.Inside.Lanes.{HasBack, HasLanes, HasWide};
 
 use literal_base::count::Tally;
@@ -109,6 +110,31 @@ pub fn three_back_wide(before: u8x32, here: u8x32) -> u8x32
             51, 52, 53, 54, 55, 56, 57, 58, 59, 60,
         ],
     )
+}
+
+/// The last lanes of one vector, at most three, and all but as many of the next.
+#[inline(always)]
+pub fn shifted_wide(lanes: usize, before: u8x32, here: u8x32) -> u8x32
+    requires { lanes ≤ 3 }
+    ensures { (f : ℕ → ℕ) → HasBack before f → HasWide here (λ k. f (16 + k))
+        → HasWide result (λ k. f (16 - lanes + k)) }
+{
+    match lanes {
+        0 => here,
+        1 => one_back_wide(before, here),
+        2 => two_back_wide(before, here),
+        _ => three_back_wide(before, here),
+    }
+}
+
+/// 255 for each byte that is the rare one, once the bits of the mask are set, otherwise 0.
+#[inline(always)]
+pub fn wanted_wide(bytes: u8x32, rare: u8, mask: u8) -> u8x32
+    ensures { HasWide result (λ k. hit rare mask (slice_index bytes k)) }
+{
+    (bytes | u8x32::splat(mask))
+        .simd_eq(u8x32::splat(rare))
+        .select(u8x32::splat(255), u8x32::splat(0))
 }
 
 /// How many lanes come before the first that is not 0.

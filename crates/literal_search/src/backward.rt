@@ -9,7 +9,8 @@ ghost use Rattle.literal_base.specs.declared.search.Span.{Span};
 ghost use Rattle.literal_search.specs.SearchValue.{ScansNext, ScansThrice, looked_by};
 ghost use Rattle.literal_search.specs.Inside.Backward.{AreMarked, AreMarks, ForBackward, IsAhead, IsBlock};
 ghost use Rattle.literal_search.specs.Inside.Backward.{HasLookedAhead, IsBlockMarked};
-ghost use Rattle.literal_search.specs.Inside.Backward.{IsMark, IsMatchBy, IsPlaced, IsSafe, NoneFrom, offset_by};
+ghost use Rattle.literal_search.specs.Inside.Backward.{IsMark, IsMatchBy, IsPlaced, IsSafe, NoneFrom, named_by};
+ghost use Rattle.literal_search.specs.Inside.Backward.{offset_by};
 ghost use Rattle.literal_search.specs.Inside.Leftmost.{AreLanes, AreMarksAfter, AreSteps, HasBytes, HaveRows};
 ghost use Rattle.literal_search.specs.Inside.Leftmost.{IsLimit, IsPart};
 ghost use Rattle.literal_search.specs.declared.backward.Continuation.{Continuation};
@@ -641,13 +642,30 @@ impl<'t> Backward<'t> {
         ensures here { IfOk result (λ found. found.start ≡ at) }
     {
         prove!(span.end <= haystack.len());
-        let pattern = self.table.ending_at((code - ENDS) as usize)? as usize;
-        let len = *self.lens.get(pattern).ok_or(Damaged)? as usize;
+        let (pattern, len) = self.named_by(code)?;
         if len == 0 || len > self.table.longest || len > span.end - at {
             return Err(Damaged);
         }
         let end = at + len;
         Ok(Match::must(pattern, Span { start: at, end }))
+    }
+
+    /// The number of the pattern that a mark names, and its length. If there is one pattern, they are known without the
+    /// rows: so where the search goes on does not wait for the mark.
+    #[inline(always)]
+    fn named_by(&self, code: u32) -> Result<(usize, usize), Damaged>
+        requires ends { 2 ^ 31 ≤ code }
+        ensures named { ForBackward self.now (λ tables. (haystack : List ℕ) (end at : ℕ)
+            → IsMark tables haystack end at code → IsOkAnd result (λ named. (named.0 ≡ named_by tables code)
+            × (named.1 ≡ slice_index self.now.lens.now named.0))) }
+        ensures pattern { IfOk result (λ named. named.0 < length self.now.lens.now) }
+    {
+        if self.lens.len() == 1 {
+            return Ok((0, self.table.longest));
+        }
+        let pattern = self.table.ending_at((code - ENDS) as usize)? as usize;
+        let len = *self.lens.get(pattern).ok_or(Damaged)?;
+        Ok((pattern, len as usize))
     }
 }
 

@@ -30,7 +30,7 @@ const FEW_ENDS: usize = 32;
 const FREQUENT: u128 = 4096;
 
 /// The same if bytes are passed over by a scan for candidates.
-const FREQUENT_BY_SCAN: u128 = 128;
+const FREQUENT_BY_SCAN: u128 = 96;
 
 /// The progress of a count: the walk has read up to the offset, and counted the occurrences that end at it or before.
 #[derive(Clone, Copy)]

@@ -1,16 +1,14 @@
 //! Finds the next offset at which a pattern ends, by one walk. When the walk is back in the start state, the search
 //! passes over bytes where no pattern begins.
-ghost use Rattle.std.specs.Prelude.{◌≡◌, ◌+◌, ◌-◌, ◌*◌, ◌<◌, ◌≤◌, ◌^◌, IfOk, IfSome, MatchOption, length};
+ghost use Rattle.std.specs.Prelude.{◌≡◌, ◌+◌, ◌-◌, ◌*◌, ◌<◌, ◌≤◌, ◌^◌, IfOk, IfSome, length};
 ghost use Rattle.literal_base.specs.Occurs.{IsValidSpan};
-ghost use Rattle.literal_search.specs.Prepared.{scan_by, past_skipped};
 ghost use Rattle.literal_search.specs.Inside.NextEnd.{FindsNext, StepsToWalkEnd};
 
-use crate::prepared::{Damaged, SCAN_LEN, scan_in};
+use crate::prepared::{Damaged, SCAN_LEN};
 use crate::scan::farther;
 use crate::walk::{Reached, Table, WalkEnd};
 use literal_base::Span;
 use literal_base::count::Tally;
-use literal_fingerprints::CandidateScan;
 
 impl<'t> Table<'t> {
     /// The first offset in a span after its start at which a pattern ends, and the row there. The walk begins to read
@@ -41,7 +39,6 @@ impl<'t> Table<'t> {
         let by_scan = prints[0] > 0;
         let nearest = self.nearest(by_scan);
         let mut near = nearest;
-        let mut scan = None;
         let passes = self.can_pass(by_scan, end - start);
         // (a walk of this length and a pass that reads twice as much in vain fit into the rest)
         while passes && 3 * near <= end - start {
@@ -51,8 +48,7 @@ impl<'t> Table<'t> {
                 Reached::Nowhere => return Ok(None),
                 Reached::Back(at) => {
                     let later = Span { start: at, end };
-                    scan = kept_or_read(scan, prints);
-                    start = self.pass_over(&scan, haystack, later, nearest, tally)?;
+                    start = self.pass_over(prints, haystack, later, nearest, tally)?;
                     near = farther(nearest, near, start - at);
                     from = 0;
                 }
@@ -64,19 +60,5 @@ impl<'t> Table<'t> {
             Reached::Nowhere => Ok(None),
             Reached::Back(_) => Ok(None), // (there is no such offset)
         }
-    }
-}
-
-/// The scan of these numbers, if there is one. The numbers are read once.
-#[inline(always)]
-fn kept_or_read(kept: Option<CandidateScan>, prints: &[u32]) -> Option<CandidateScan>
-    requires prints { length prints.now ≡ SCAN_LEN }
-    requires kept { IfSome kept (λ f. (0 < past_skipped prints.now) × (f ≡ scan_by prints.now)) }
-    ensures { MatchOption result (past_skipped prints.now ≡ 0)
-        (λ f. (0 < past_skipped prints.now) × (f ≡ scan_by prints.now)) }
-{
-    match kept {
-        Some(scan) => Some(scan),
-        None => scan_in(prints),
     }
 }

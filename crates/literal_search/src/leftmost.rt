@@ -326,7 +326,8 @@ impl<'t> Backward<'t> {
             (IsFirstStart tables haystack.now span.end (between at (at + 1)))) }
         ensures inside { IfOk result (LiesInPart at (at + 1)) }
         ensures others { tally.new ≡ record tally.old { scanned = tally.new.scanned } }
-        ensures most { tally.new.scanned ≤ tally.old.scanned + max self.now.table.longest 1 }
+        ensures most { tally.new.scanned + at
+            ≤ tally.old.scanned + min (at + max self.now.table.longest 1) span.end }
         ensures all { IfOk result (λ _. tally.new.scanned + at
             ≡ tally.old.scanned + min (at + max self.now.table.longest 1) span.end) }
     {

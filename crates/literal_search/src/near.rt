@@ -237,8 +237,9 @@ impl<'t> Backward<'t> {
         })
     }
 
-    /// Walks over one short piece from the first candidate on, before whole blocks are walked over. It does nothing if
-    /// there is no scan for candidates, if scanning has cost too much, or if there are many states.
+    /// Looks at the first candidate alone, and then walks over one short piece from there on, before whole blocks are
+    /// walked over. It does nothing if there is no scan for candidates, if the scan passed over many bytes, or if
+    /// several patterns have many states.
     #[inline(always)]
     pub(crate) fn look_first(
         &self,
@@ -255,7 +256,7 @@ impl<'t> Backward<'t> {
         requires limit { IsLimit self.now limit }
         requires valid { IsValidSpan haystack.now span }
         requires after { span.start ≤ progress.at }
-        requires inside { progress.at ≤ span.end }
+        requires inside { progress.at < span.end }
         requires for_patterns { AreFor self.now scan.now }
         ensures first { ForBackward self.now (λ tables. IsOkAnd result (λ looked.
             IsFirstStart tables haystack.now span.end (between progress.at looked.progress.at) looked.first)) }
@@ -271,14 +272,27 @@ impl<'t> Backward<'t> {
             → tally.new.scanned + 3 * span.start ≤ base + 3 * span.end }
         ensures others { tally.new ≡ record tally.old { scanned = tally.new.scanned } }
     {
-        if scan.is_none() || progress.credit >= PRICE || !self.has_few_states(FEW_STATES_TO_SCAN) {
+        let is_likely = self.lens.len() == 1 || self.has_few_states(FEW_STATES_TO_SCAN);
+        if scan.is_none() || progress.credit >= PRICE || !is_likely {
             return Ok(StepResult {
                 first: None,
                 progress,
             });
         }
-        let len = self.table.longest / 2 + PIECE;
         let start = progress.at;
+        let here = self.begun_at(classes, haystack, span, start, limit, tally)?;
+        if here.is_some() {
+            let progress = Progress {
+                at: start + 1,
+                ..progress
+            };
+            return Ok(StepResult {
+                first: here,
+                progress,
+            });
+        }
+        // (long enough to pay for the walk at the candidate too)
+        let len = self.table.longest.saturating_add(PIECE);
         let end = start + len.min(span.end - start);
         let part = Span { start, end };
         let progress = Progress {

@@ -1,17 +1,17 @@
 //! Passes over bytes where no pattern begins, by a scan for candidates or by four walks at once. `Table::pass_over` and
 //! `Table::can_pass` decide which.
 ghost use Rattle.std.specs.Prelude.{◌≡◌, ◌+◌, ◌-◌, ◌*◌, ◌<◌, ◌≤◌, ◌^◌};
-ghost use Rattle.std.specs.Prelude.{IfOk, IfSome, None, false, length, true};
+ghost use Rattle.std.specs.Prelude.{IfOk, false, length, true};
 ghost use Rattle.std.specs.Result.{IsOkAnd};
 ghost use Rattle.literal_base.specs.Occurs.{IsValidSpan, between};
-ghost use Rattle.literal_fingerprints.specs.CandidateScans.{StopsAtEach};
+ghost use Rattle.literal_search.specs.Prepared.{ArePrints, past_skipped};
 ghost use Rattle.literal_search.specs.Inside.Leftmost.{ahead_by, owed_by};
 ghost use Rattle.literal_search.specs.Inside.Scan.{ForPatterns, IsNear, NoneBefore};
 ghost use Rattle.literal_search.specs.Inside.Walk.{classes_by};
 
 use crate::classes::CLASSES_LEN;
 use crate::leftmost::OVERLAP;
-use crate::prepared::Damaged;
+use crate::prepared::{Damaged, SCAN_LEN, scan_in};
 use crate::walk::Table;
 use literal_base::Span;
 use literal_base::count::Tally;
@@ -64,24 +64,24 @@ impl<'t> Table<'t> {
         BLOCKS_NEAR * FIRST_BLOCK.max(2 * longest)
     }
 
-    /// Returns an offset in a span before which no pattern begins. It is not inlined, so its caller keeps values in
-    /// registers.
+    /// Returns an offset in a span before which no pattern begins, by the scan for candidates that the numbers
+    /// describe, if there is one. It is not inlined, so its caller keeps values in registers.
     #[inline(never)]
     pub fn pass_over(
         &self,
-        scan: &Option<CandidateScan>,
+        prints: &[u32],
         haystack: &[u8],
         span: Span,
         near: usize,
         tally: &mut Tally,
     ) -> Result<usize, Damaged>
         requires classes { length self.now.classes.now ≡ 64 }
+        requires prints { length prints.now ≡ SCAN_LEN }
         requires valid { IsValidSpan haystack.now span }
         requires some { 8 ≤ near }
-        requires long { scan.now ≡ None → 6 * self.now.longest ≤ near }
+        requires long { past_skipped prints.now ≡ 0 → 6 * self.now.longest ≤ near }
         requires short { near ≤ 6 * LONGEST }
-        ensures none { ForPatterns self.now (λ patterns ignore_case.
-            IfSome scan.now (λ f. StopsAtEach f ignore_case patterns)
+        ensures none { ForPatterns self.now (λ patterns ignore_case. ArePrints patterns ignore_case prints.now
             → IsOkAnd result (NoneBefore patterns ignore_case haystack.now span)) }
         ensures inside { IfOk result (λ at. (span.start ≤ at) × (at ≤ span.end)) }
         ensures others { tally.new ≡ record tally.old { scanned = tally.new.scanned } }
@@ -91,7 +91,7 @@ impl<'t> Table<'t> {
         ensures grows { tally.old.scanned ≤ tally.new.scanned }
         ensures least { IfOk result (λ at. tally.old.scanned + at ≤ tally.new.scanned + span.start) }
     {
-        match scan {
+        match scan_in(prints) {
             Some(scan) => Ok(scan.next(haystack, span, tally)),
             None => self.pass_blocks(haystack, span, near, tally),
         }

@@ -3,15 +3,14 @@ use Rattle.std.proofs.Common.{◌≡◌, ◌≢◌, ℕ, ◌+◌, ◌-◌, ◌<�
 use Rattle.std.proofs.Common.{[], Bool, eqb, false, get_or, inl, inr, min, refl, subst, sym, true}
 use Rattle.std.proofs.lemmas.Bool.{cases_lt, eq-eqb, eqb-true, le-ltb, lt-ltb}
 use Rattle.std.proofs.lemmas.Bool.Decides.{nat_tests}
-use Rattle.std.proofs.lemmas.Nat.{le_or_l, le_or_r}
-use Rattle.std.specs.Int.Bits.{and_zero_l, and_zero_r, or_zero_l}
+use Rattle.std.specs.Int.Bits.{and_zero_l, and_zero_r}
 use Rattle.literal_base.specs.Occurs.{IsValidSpan}
 use Rattle.literal_base.specs.declared.search.Span.{Span}
 use Rattle.literal_fingerprints.specs.RarePairs.{HasBytes, HasPair, HasPairOfEarlier, NoPairBegins, first_offset}
 use Rattle.literal_fingerprints.specs.RarePairs.{has_between}
 use Rattle.literal_fingerprints.specs.declared.pair.RarePair.{RarePair}
 use Rattle.literal_fingerprints.specs.Inside.Hits.{hit, hit_at, pair_hit_at, with_between}
-use Rattle.literal_fingerprints.specs.Inside.Lanes.{HasLanes}
+use Rattle.literal_fingerprints.specs.Inside.Lanes.{AreLanes, HasBack, HasWide}
 use Rattle.literal_base.proofs.lemmas.Callers.{bytes_at}
 use Rattle.literal_fingerprints.proofs.lemmas.Sets.{meets}
 
@@ -50,9 +49,9 @@ hits : (rare mask byte : ℕ) → bit_or byte mask ≡ rare → hit rare mask by
 hits rare mask byte is = ap lane_of (eq-eqb _ _ is)
 
 -- the same lanes, their places counted from the vector before
-pub later_hits : (rare mask : ℕ) (haystack : List ℕ) (origin at : ℕ) (lanes : List ℕ)
-    → HasLanes lanes (λ k. hit_at rare mask haystack origin (at + 16 + k))
-    → HasLanes lanes (λ k. hit_at rare mask haystack origin (at + (16 + k)))
+pub later_hits : {w : ℕ} → (rare mask : ℕ) (haystack : List ℕ) (origin at : ℕ) (lanes : List ℕ)
+    → AreLanes w lanes (λ k. hit_at rare mask haystack origin (at + 16 + k))
+    → AreLanes w lanes (λ k. hit_at rare mask haystack origin (at + (16 + k)))
 later_hits rare mask haystack origin at lanes has = record {
   long = has.long;
   each = λ k below.
@@ -60,12 +59,16 @@ later_hits rare mask haystack origin at lanes has = record {
       has.each k below ∙ ap (hit_at rare mask haystack origin) same;
 }
 
--- where no lane of either is set, none is of both
-pub neither : (a b : ℕ) → bit_or a b ≡ 0 → (a ≡ 0) × (b ≡ 0)
-neither a b none = (omega (arith, le_or_l a b), omega (arith, le_or_r a b))
-
-pub none_of_either : (a b : ℕ) → a ≡ 0 → b ≡ 0 → bit_or a b ≡ 0
-none_of_either a b one other = ap (λ x. bit_or x b) one ∙ or_zero_l b ∙ other
+-- the last 16 of 32 lanes, their places counted from 16 bytes later
+pub back_hits : (rare mask : ℕ) (haystack : List ℕ) (origin at : ℕ) (lanes : List ℕ)
+    → HasWide lanes (λ k. hit_at rare mask haystack origin (at + 16 + k))
+    → HasBack lanes (λ k. hit_at rare mask haystack origin (at + 32 + k))
+back_hits rare mask haystack origin at lanes has = record {
+  long = has.long;
+  each = λ k below.
+      let same : at + 16 + (16 + k) ≡ at + 32 + k = omega arith in
+      has.each (16 + k) (omega arith) ∙ ap (hit_at rare mask haystack origin) same;
+}
 
 some_of : (a b : ℕ) → bit_and a b ≢ 0 → (a ≢ 0) × (b ≢ 0)
 some_of a b some = (
@@ -118,9 +121,9 @@ module _ (pair : RarePair) (first_mask second_mask : ℕ) (three : Bool) (apart 
         → pair_hit pair first_mask second_mask three apart haystack k ≡ 0
 
     -- the lanes of the vector at a place
-    abbrev pub PairLanes : List ℕ → ℕ → Type 0
-    PairLanes lanes at =
-        HasLanes lanes (λ k. pair_hit_at pair first_mask second_mask three apart haystack origin
+    abbrev pub PairLanes : ℕ → List ℕ → ℕ → Type 0
+    PairLanes width lanes at =
+        AreLanes width lanes (λ k. pair_hit_at pair first_mask second_mask three apart haystack origin
         (at + (16 - apart + k)))
 
     in_haystack : (k place : ℕ) → origin ≤ k → place ≡ k + 16
@@ -138,53 +141,37 @@ module _ (pair : RarePair) (first_mask second_mask : ℕ) (three : Bool) (apart 
         (ap (hit_at pair.between first_mask haystack origin) between
         ∙ hit_in pair.between first_mask haystack origin (k + 1) (omega arith))
 
-    module _ (few : apart ≤ 3) (at : ℕ) (lanes : List ℕ) (has : PairLanes lanes at) (after : origin ≤ at) where
-      -- more places at which there is none
-      pub none_more : (n : ℕ) → n ≤ 16 → ((k : ℕ) → k < n → get_or lanes k 0 ≡ 0) → NoneHit at → NoneHit (at + n)
-      none_more n within zero old k later below = elim (cases_lt (k + apart) at) [
-        | inl before ↦ old k later before
-        | inr not ↦
-            let lane = k + apart - at in
-            let same : at + (16 - apart + lane) ≡ k + 16 = omega arith in
-            sym (in_haystack k (at + (16 - apart + lane)) later same)
-            ∙ (sym (has.each lane (omega arith)) ∙ zero lane (omega arith))
-      ]
-
-      module _ (n : ℕ) (below : n < 16) (stops : get_or lanes n 0 ≢ 0) where
-        some : pair_hit_at pair first_mask second_mask three apart haystack origin (at + (16 - apart + n)) ≢ 0
-        some none = stops (has.each n below ∙ none)
-
-        -- the first byte is compared too
-        pub far : origin + apart ≤ at + n
-        far = omega (
-          arith,
-          hit_after pair.first.byte first_mask haystack origin (at + (16 - apart + n))
-              (some_of _ _ (ends_of three _ _ some)).0,
-        )
-
-        pub is_pair : (k : ℕ) → k + apart ≡ at + n
-            → pair_hit pair first_mask second_mask three apart haystack k ≢ 0
-        is_pair k place none =
-            let inside = far in
-            let same : at + (16 - apart + n) ≡ k + 16 = omega arith in
-            some (in_haystack k (at + (16 - apart + n)) (omega arith) same ∙ none)
-
-    -- the same by two vectors, one behind the other
-    pub none_more_of_two : apart ≤ 3 → (at : ℕ) (front back : List ℕ) → PairLanes front at → PairLanes back (at + 16)
-        → origin ≤ at → (n : ℕ) → n ≤ 32 → ((k : ℕ) → k < n → k < 16 → get_or front k 0 ≡ 0)
-        → ((k : ℕ) → 16 + k < n → get_or back k 0 ≡ 0) → NoneHit at → NoneHit (at + n)
-    none_more_of_two few at front back has_front has_back after n within zero_front zero_back old =
-        elim (cases_lt n 16) [
-          | inl short ↦ none_more few at front has_front after n (omega arith)
-              (λ k below. zero_front k below (omega arith)) old
-          | inr long ↦
-              let place : at + 16 + (n - 16) ≡ at + n = omega arith in
-              subst NoneHit place
-              (none_more few (at + 16) back has_back (omega arith) (n - 16) (omega arith)
-              (λ k below. zero_back k (omega arith))
-              (none_more few at front has_front after 16 (omega arith)
-              (λ k below. zero_front k (omega arith) below) old))
+    module _ (few : apart ≤ 3) (width at : ℕ) (lanes : List ℕ) (has : PairLanes width lanes at) (after : origin ≤ at)
+      where
+        -- more places at which there is none
+        pub none_more : (n : ℕ) → n ≤ width → ((k : ℕ) → k < n → get_or lanes k 0 ≡ 0) → NoneHit at → NoneHit (at + n)
+        none_more n within zero old k later below = elim (cases_lt (k + apart) at) [
+          | inl before ↦ old k later before
+          | inr not ↦
+              let lane = k + apart - at in
+              let same : at + (16 - apart + lane) ≡ k + 16 = omega arith in
+              sym (in_haystack k (at + (16 - apart + lane)) later same)
+              ∙ (sym (has.each lane (omega arith)) ∙ zero lane (omega arith))
         ]
+
+        module _ (n : ℕ) (below : n < width) (stops : get_or lanes n 0 ≢ 0) where
+          some : pair_hit_at pair first_mask second_mask three apart haystack origin (at + (16 - apart + n)) ≢ 0
+          some none = stops (has.each n below ∙ none)
+
+          -- the first byte is compared too
+          pub far : origin + apart ≤ at + n
+          far = omega (
+            arith,
+            hit_after pair.first.byte first_mask haystack origin (at + (16 - apart + n))
+                (some_of _ _ (ends_of three _ _ some)).0,
+          )
+
+          pub is_pair : (k : ℕ) → k + apart ≡ at + n
+              → pair_hit pair first_mask second_mask three apart haystack k ≢ 0
+          is_pair k place none =
+              let inside = far in
+              let same : at + (16 - apart + n) ≡ k + 16 = omega arith in
+              some (in_haystack k (at + (16 - apart + n)) (omega arith) same ∙ none)
 
 module _ (pair : RarePair) (first_mask second_mask : ℕ) (three : Bool) (apart offset : ℕ)
     (is_first : first_mask ≡ pair.first.mask) (is_second : second_mask ≡ pair.second.mask)
@@ -278,25 +265,25 @@ module _ (pair : RarePair) (first_mask second_mask : ℕ) (three : Bool) (apart 
         )
 
     -- where a lane is set, the haystack has the pair, if it lies behind the start
-    pub has_pair : (start at : ℕ) (lanes : List ℕ)
-        → PairLanes pair first_mask second_mask three apart haystack start lanes at → start ≤ at → (n : ℕ) → n < 16
-        → get_or lanes n 0 ≢ 0 → offset + apart ≤ at + n
+    pub has_pair : (start width at : ℕ) (lanes : List ℕ)
+        → PairLanes pair first_mask second_mask three apart haystack start width lanes at → start ≤ at → (n : ℕ)
+        → n < width → get_or lanes n 0 ≢ 0 → offset + apart ≤ at + n
         → HasPair pair haystack (at + n - (offset + apart))
-    has_pair start at lanes has after n below stops low =
+    has_pair start width at lanes has after n below stops low =
         let k = at + n - (offset + apart) + first_offset pair in
-        has_bytes k (is_pair pair first_mask second_mask three apart haystack start few at lanes has after n below stops
-        k (omega (arith, is_offset)))
+        has_bytes k (is_pair pair first_mask second_mask three apart haystack start few width at lanes has after n below
+        stops k (omega (arith, is_offset)))
 
     -- and where the pattern would begin before the start, the pair is one of an earlier pattern
     pub has_earlier : (start : ℕ) (lanes : List ℕ)
-        → PairLanes pair first_mask second_mask three apart haystack start lanes start → (n : ℕ) → n < 16
+        → PairLanes pair first_mask second_mask three apart haystack start 16 lanes start → (n : ℕ) → n < 16
         → get_or lanes n 0 ≢ 0 → n < offset + apart → HasPairOfEarlier pair haystack start
     has_earlier start lanes has n below stops low =
-        let inside = far pair first_mask second_mask three apart haystack start few start lanes has (omega arith) n
-        below stops in
+        let inside = far pair first_mask second_mask three apart haystack start few 16 start lanes has (omega arith)
+        n below stops in
         let k = n - apart in (
           k,
           omega (arith, is_offset),
-          has_bytes (start + k) (is_pair pair first_mask second_mask three apart haystack start few start lanes has
+          has_bytes (start + k) (is_pair pair first_mask second_mask three apart haystack start few 16 start lanes has
               (omega arith) n below stops (start + k) (omega arith)),
         )

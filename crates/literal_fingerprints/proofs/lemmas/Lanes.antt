@@ -156,28 +156,36 @@ lanes_of_splat {n} f a x p =
     }
 
 -- one of two bytes, by a test of each lane with a third
-pub lanes_of_choice : (t : ℕ → ℕ → Bool) (a : List ℕ) (x y z : ℕ) → length a ≡ 16
-    → HasLanes (sel_l (zip2 t a (replicate 16 x)) (replicate 16 y) (replicate 16 z)) (λ k. cond (t (get_or a k 0) x)
-    y z)
-lanes_of_choice t a x y z p =
-    let tests = zip2 t a (replicate 16 x) in
-    let long : length tests ≡ 16 = length-zip2 t a (replicate 16 x) p ∙ p in
+pub lanes_of_choice : (n : ℕ) (t : ℕ → ℕ → Bool) (a : List ℕ) (x y z : ℕ) → length a ≡ n
+    → AreLanes n (sel_l (zip2 t a (replicate n x)) (replicate n y) (replicate n z))
+    (λ k. cond (t (get_or a k 0) x) y z)
+lanes_of_choice n t a x y z p =
+    let tests = zip2 t a (replicate n x) in
+    let same : length a ≡ length (replicate {A = ℕ} n x) = p ∙ sym (length-replicate n x) in
+    let long : length tests ≡ n = length-zip2 t a (replicate n x) same ∙ p in
+    let ones : length tests ≡ length (replicate {A = ℕ} n y) = long ∙ sym (length-replicate n y) in
+    let twos : length tests ≡ length (replicate {A = ℕ} n z) = long ∙ sym (length-replicate n z) in
     record {
-      long = length-sel_l tests (replicate 16 y) (replicate 16 z) long long ∙ long;
+      long = length-sel_l tests (replicate n y) (replicate n z) ones twos ∙ long;
       each = λ k below.
           let test : get_or tests k false ≡ t (get_or a k 0) x =
-          get_or-zip2 t a (replicate 16 x) k 0 0 false (omega arith) below
-          ∙ ap (t (get_or a k 0)) (get_or-replicate 16 k x 0 below) in
-          get_or-sel_l tests (replicate 16 y) (replicate 16 z) k 0 (omega arith) below below
-          ∙ (ap (λ b. cond b (get_or (replicate 16 y) k 0) (get_or (replicate 16 z) k 0)) test
-          ∙ (ap (λ n. cond (t (get_or a k 0) x) n (get_or (replicate 16 z) k 0)) (get_or-replicate 16 k y 0 below)
-          ∙ ap (cond (t (get_or a k 0) x) y) (get_or-replicate 16 k z 0 below)));
+          get_or-zip2 t a (replicate n x) k 0 0 false (omega arith) (omega (arith, length-replicate n x))
+          ∙ ap (t (get_or a k 0)) (get_or-replicate n k x 0 below) in
+          get_or-sel_l tests (replicate n y) (replicate n z) k 0 (omega arith) (omega (arith, length-replicate n y))
+          (omega (arith, length-replicate n z))
+          ∙ (ap (λ b. cond b (get_or (replicate n y) k 0) (get_or (replicate n z) k 0)) test
+          ∙ (ap (λ m. cond (t (get_or a k 0) x) m (get_or (replicate n z) k 0)) (get_or-replicate n k y 0 below)
+          ∙ ap (cond (t (get_or a k 0) x) y) (get_or-replicate n k z 0 below)));
     }
 
 -- lanes that begin at the same place, by another sum
-pub lanes_from : (lanes : List ℕ) (f : ℕ → ℕ) (m n : ℕ) → m ≡ n → HasLanes lanes (λ k. f (m + k))
-    → HasLanes lanes (λ k. f (n + k))
-lanes_from lanes f m n same has = subst (λ j. HasLanes lanes (λ k. f (j + k))) same has
+pub lanes_from : {w : ℕ} → (lanes : List ℕ) (f : ℕ → ℕ) (m n : ℕ) → m ≡ n → AreLanes w lanes (λ k. f (m + k))
+    → AreLanes w lanes (λ k. f (n + k))
+lanes_from {w} lanes f m n same has = subst (λ j. AreLanes w lanes (λ k. f (j + k))) same has
+
+-- the last 16 lanes of a vector of 32
+pub back_of_wide : (lanes : List ℕ) (f : ℕ → ℕ) → HasWide lanes f → HasBack lanes (λ k. f (16 + k))
+back_of_wide lanes f has = record { long = has.long; each = λ k below. has.each (16 + k) (omega arith) }
 
 module _ (js : List ℕ) (f : ℕ → ℕ) (lanes : HasLanes js f) (small : (k : ℕ) → k < 16 → f k < 16) where
   -- positions in a table of 16

@@ -2,9 +2,10 @@
 -- that is compared.
 use Rattle.std.specs.Prelude.{ℕ, ◌+◌, ◌-◌, ◌==◌, if◌then◌else◌, Bool, true, false, List, bit_and, bit_or, nat_lt}
 use Rattle.std.specs.Prelude.{slice_index}
-use Rattle.literal_fingerprints.specs.Inside.Lanes.{HasLanes}
+use Rattle.literal_fingerprints.specs.Inside.Lanes.{HasBack, HasLanes, HasWide}
 use Rattle.literal_fingerprints.specs.declared.pair.Compared.{Compared}
 use Rattle.literal_fingerprints.specs.declared.pair.RarePair.{RarePair}
+use Rattle.literal_fingerprints.specs.declared.pair.WideCompared.{WideCompared}
 
 -- 255 if a byte is the rare one, once the bits of a mask are set in it, otherwise 0
 abbrev pub hit : ℕ → ℕ → ℕ → ℕ
@@ -34,3 +35,17 @@ pub record AreHits (compared : Compared) (pair : RarePair) (first_mask second_ma
   pub first : HasLanes compared.first (λ k. hit_at pair.first.byte first_mask haystack origin (at + k))
   pub between : HasLanes compared.between (λ k. hit_at pair.between first_mask haystack origin (at + k))
   pub second : HasLanes compared.second (λ k. hit_at pair.second.byte second_mask haystack origin (at + k))
+
+-- the same for 32 bytes, by the last 16 of them
+pub record AreBackHits (compared : WideCompared) (pair : RarePair) (first_mask second_mask : ℕ) (haystack : List ℕ)
+    (origin at : ℕ) : Type 0 where
+  pub first : HasBack compared.first (λ k. hit_at pair.first.byte first_mask haystack origin (at + k))
+  pub between : HasBack compared.between (λ k. hit_at pair.between first_mask haystack origin (at + k))
+  pub second : HasBack compared.second (λ k. hit_at pair.second.byte second_mask haystack origin (at + k))
+
+-- the hits in the 16 bytes before an offset, and in the 16 bytes after it
+pub record AreWideHits (compared : WideCompared) (pair : RarePair) (first_mask second_mask : ℕ) (haystack : List ℕ)
+    (origin at : ℕ) : Type 0 where
+  pub first : HasWide compared.first (λ k. hit_at pair.first.byte first_mask haystack origin (at + k))
+  pub between : HasWide compared.between (λ k. hit_at pair.between first_mask haystack origin (at + k))
+  pub second : HasWide compared.second (λ k. hit_at pair.second.byte second_mask haystack origin (at + k))

@@ -22,7 +22,7 @@ use Rattle.literal_search.specs.Table.{Recognises}
 use Rattle.literal_search.specs.Words.{ending}
 use Rattle.literal_search.specs.declared.backward.Backward.{Backward}
 use Rattle.literal_search.proofs.lemmas.Found.{occurs_where, some_symbols, stands_where, symbols_length}
-use Rattle.literal_search.proofs.lemmas.Longest.{longest_is}
+use Rattle.literal_search.proofs.lemmas.Longest.{longest_is, longest_only}
 use Rattle.literal_search.proofs.lemmas.FirstSuffix.{first_ends, none_ends}
 use Rattle.literal_search.proofs.lemmas.Reversed.{back_count, back_long, end_is_prefix, prefix_is_end, some_back}
 use Rattle.literal_search.proofs.lemmas.Shadowed.{ending_is_best, ends_unshadowed, some_unshadowed}
@@ -227,6 +227,18 @@ module _ (b : Backward) (search : SearchValue) (is : AreBackFor search b) (hayst
     length_is =
         ap (λ (l : List ℕ). get_or l best 0) is.lens
         ∙ get_or-map (λ (bytes : List ℕ). length bytes) search.query.patterns best [] 0 begins.occurs.is_pattern
+
+    -- the only pattern is the longest one
+    pub only_named : length b.lens.now ≡ 1 → (0 ≡ best) × (b.table.longest ≡ get_or b.lens.now 0 0)
+    only_named one =
+        let patterns = search.query.patterns in
+        let same : length patterns ≡ 1 =
+        sym (length-map patterns (λ (bytes : List ℕ). length bytes)) ∙ (sym (ap length is.lens) ∙ one) in
+        let none : 0 ≡ best = omega (arith, begins.occurs.is_pattern) in (
+          none,
+          is.tables.longest ∙ (longest_only patterns same
+              ∙ sym (subst (λ i. get_or b.lens.now i 0 ≡ length (pattern_at patterns i)) (sym none) length_is)),
+        )
 
     -- it is not empty, no longer than the longest pattern, and lies before the end
     pub mark_inside : (0 < get_or b.lens.now best 0) × (get_or b.lens.now best 0 ≤ b.table.longest)

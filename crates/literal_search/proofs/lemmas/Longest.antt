@@ -1,5 +1,5 @@
 -- How long the longest of some patterns is.
-use Rattle.std.proofs.Common.{ℕ, ◌<◌, ◌≤◌, List, [], ◌∷◌, arith, length, suc, zero}
+use Rattle.std.proofs.Common.{◌≡◌, ℕ, ◌<◌, ◌≤◌, List, [], ◌∷◌, arith, length, suc, zero}
 use Rattle.std.specs.List.{All}
 use Rattle.literal_base.specs.Occurs.{pattern_at}
 use Rattle.literal_search.specs.SearchValue.{longest_of}
@@ -9,6 +9,12 @@ pub longest_is : (patterns : List (List ℕ)) (i : ℕ) → length (pattern_at p
 longest_is [] i = omega arith
 longest_is (bytes ∷ more) zero = omega arith
 longest_is (bytes ∷ more) (suc i) = omega (arith, longest_is more i)
+
+pub longest_only : (patterns : List (List ℕ)) → length patterns ≡ 1
+    → longest_of patterns ≡ length (pattern_at patterns 0)
+longest_only [] one = absurd (omega arith)
+longest_only (bytes ∷ []) one = omega arith
+longest_only (bytes ∷ other ∷ more) one = absurd (omega arith)
 
 pub longest_short : (patterns : List (List ℕ)) (n : ℕ) → 0 < n → All (λ (bytes : List ℕ). length bytes < n) patterns
     → longest_of patterns < n

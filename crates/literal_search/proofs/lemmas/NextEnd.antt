@@ -1,13 +1,11 @@
 -- A walk from one end of patterns to the next.
 use Rattle.std.proofs.Common.{◌≡◌, ℕ, ◌+◌, ◌-◌, ◌<◌, ◌≤◌, Bool, List, [], Some, get_or, length, map, ap, arith, refl}
-use Rattle.std.proofs.Common.{sym, ◌∙◌, ◌^◌, IfOk, IfSome, IsSome, MatchOption, None, Ok, Option, Result}
+use Rattle.std.proofs.Common.{sym, ◌∙◌, ◌^◌, IfOk, IfSome, IsSome, None, Ok, Option, Result}
 use Rattle.std.specs.Result.{IsOkAnd}
 use Rattle.std.specs.Option.{option_map}
 use Rattle.literal_base.specs.Occurs.{IsValidSpan, NoneIsEmpty, Occurs, between, pattern_at}
 use Rattle.literal_base.specs.declared.search.Span.{Span}
-use Rattle.literal_fingerprints.specs.CandidateScans.{StopsAtEach}
-use Rattle.literal_fingerprints.specs.declared.candidates.CandidateScan.{CandidateScan}
-use Rattle.literal_search.specs.Prepared.{ArePrints, scan_by, past_skipped}
+use Rattle.literal_search.specs.Prepared.{ArePrints}
 use Rattle.literal_search.specs.Earliest.{IsEarliestEnd}
 use Rattle.literal_search.specs.Inside.Classes.{AreClasses, Tells, symbols_in}
 use Rattle.literal_search.specs.Inside.NextEnd.{FindsNext, HasComeTo, IsNextWalkEnd, IsWalkAt, IsWalkAtEnd}
@@ -224,9 +222,3 @@ finds_earliest t patterns ignore_case prints is pass haystack bytes span valid r
     span
     valid in
     grind arith
-
--- the scan of numbers that stop at each pattern stops there, too
-pub kept_pass : (patterns : List (List ℕ)) (ignore_case : Bool) (prints : List ℕ) (kept : Option CandidateScan)
-    → MatchOption kept (past_skipped prints ≡ 0) (λ f. (0 < past_skipped prints) × (f ≡ scan_by prints))
-    → ArePrints patterns ignore_case prints → IfSome kept (λ f. StopsAtEach f ignore_case patterns)
-kept_pass patterns ignore_case prints kept are pass = grind arith

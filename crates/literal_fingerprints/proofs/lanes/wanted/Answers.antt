@@ -13,7 +13,7 @@ returns c =
     (λ tests. HasLanes (sel_l tests (replicate 16 255) (replicate 16 0))
     (λ k. cond (eqb (get_or set k 0) c.args.rare) 255 0))
     (sym (tops_compared w8 eqb set (replicate 16 c.args.rare)))
-    (lanes_of_choice eqb set c.args.rare 255 0 masked.long) in
+    (lanes_of_choice 16 eqb set c.args.rare 255 0 masked.long) in
     record {
       long = chosen.long;
       each = λ k below. chosen.each k below ∙ ap (λ b. cond (eqb b c.args.rare) 255 0) (masked.each k below);

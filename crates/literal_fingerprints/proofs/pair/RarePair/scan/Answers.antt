@@ -1,8 +1,7 @@
-use Rattle.std.proofs.Common.{◌≡◌, ◌+◌, ◌-◌, ◌<◌, ◌≤◌, ◌∙◌, arith, get_or, inl, inr, rules, subst, sym, ℕ}
+use Rattle.std.proofs.Common.{◌≡◌, ◌+◌, ◌-◌, ◌≤◌, arith, inl, inr, rules, subst}
 use Rattle.std.proofs.lemmas.Bool.{cases_lt}
-use Rattle.literal_fingerprints.proofs.lemmas.Hits.{has_earlier, has_pair, neither, no_pair_begins, none_by}
-use Rattle.literal_fingerprints.proofs.lemmas.Hits.{none_by_rest, none_more, none_more_of_two, none_of_either}
-use Rattle.literal_fingerprints.specs.Inside.Hits.{AreHits}
+use Rattle.literal_fingerprints.proofs.lemmas.Hits.{back_hits, has_earlier, has_pair, no_pair_begins, none_by}
+use Rattle.literal_fingerprints.proofs.lemmas.Hits.{none_by_rest, none_more}
 use Rattle.literal_fingerprints.specs.RarePairs.{HasPair}
 use Rattle.literal_fingerprints.proofs.pair.RarePair.scan.Goals as goal
 
@@ -36,7 +35,7 @@ returns-then-passed-lt-LANES-clause-passed c =
     let lanes = c.pairs_after.ensures pair fm sm haystack start start
     (c.before_span.ensures pair fm sm haystack start) here in
     let passed = c.zeros_before-passed.result in
-    let none = none_more pair fm sm three apart haystack start (omega (arith, c.requires.apart)) start
+    let none = none_more pair fm sm three apart haystack start (omega (arith, c.requires.apart)) 16 start
     c.pairs_after.result lanes (omega arith) passed c.zeros_before-passed.ensures.few
     c.zeros_before-passed.ensures.zero (λ k later below. absurd (omega arith)) in
     no_pair_begins pair fm sm three apart offset c.requires.first c.requires.second c.requires.three
@@ -76,7 +75,7 @@ returns-then-passed-lt-LANES-clause-stops c =
           inl (subst (λ n. HasPair pair haystack n) place
           (has_pair pair fm sm three apart offset c.requires.first c.requires.second c.requires.three
           c.requires.apart c.min.ensures haystack
-          start start c.pairs_after.result lanes (omega arith) passed c.if-passed-lt-LANES.true stops (omega arith)))
+          start 16 start c.pairs_after.result lanes (omega arith) passed c.if-passed-lt-LANES.true stops (omega arith)))
     ]
 
 pub loop-at-init : goal.loop-at-init
@@ -95,16 +94,16 @@ loop-at-init c =
     record {
       low = omega arith;
       high = omega (arith, c.if-span-lt-LANES.false);
-      before = here;
-      none = none_more pair fm sm three apart haystack start (omega (arith, c.requires.apart)) start
+      before = c.twice-before.ensures pair fm sm haystack start (start + 16) here;
+      none = none_more pair fm sm three apart haystack start (omega (arith, c.requires.apart)) 16 start
           c.pairs_after.result lanes (omega arith) 16 (omega arith)
           (λ k below. c.zeros_before-passed.ensures.zero k (omega (arith, c.if-passed-lt-LANES.false)))
           (λ k later below. absurd (omega arith));
       scanned = search rules;
     }
 
-pub returns-then-zeros_before-lt-LANES-clause-passed : goal.returns-then-zeros_before-lt-LANES-clause-passed
-returns-then-zeros_before-lt-LANES-clause-passed c =
+pub returns-then-stop-lt-WIDE-clause-passed : goal.returns-then-stop-lt-WIDE-clause-passed
+returns-then-stop-lt-WIDE-clause-passed c =
     let pair = c.args.self.now in
     let fm = c.args.first_mask in
     let sm = c.args.second_mask in
@@ -116,24 +115,20 @@ returns-then-zeros_before-lt-LANES-clause-passed c =
     let at = c.loop-at.at in
     let before = c.loop-at.invariant in
     let after : start ≤ at = omega (arith, before.low) in
-    let later : start ≤ at + 16 = omega (arith, before.low) in
-    let one = c.compare-one.ensures haystack start at after c.load-in-loop-at.ensures.lanes in
-    let two = c.compare-two.ensures haystack start (at + 16) later c.load-in-loop-at-2.ensures.lanes in
-    let front = c.pairs_after-front.ensures pair fm sm haystack start at before.before one in
-    let back = c.pairs_after-back.ensures pair fm sm haystack start (at + 16) one two in
-    let passed = c.zeros_before_both.result in
-    let zeros = c.zeros_before_both.ensures in
-    let none = none_more_of_two pair fm sm three apart haystack start (omega (arith, c.requires.apart)) at
-    c.pairs_after-front.result c.pairs_after-back.result front back after passed zeros.few zeros.front zeros.back
-    before.none in
+    let wide = c.compare_wide-wide.ensures haystack start at after c.load_wide.ensures.lanes in
+    let lanes = c.pairs_after-in-loop-at.ensures pair fm sm haystack start at before.before wide in
+    let passed = c.zeros_before_wide-stop.result in
+    let zeros = c.zeros_before_wide-stop.ensures in
+    let none = none_more pair fm sm three apart haystack start (omega (arith, c.requires.apart)) 32 at
+    c.pairs_after-in-loop-at.result lanes after passed zeros.few zeros.zero before.none in
     no_pair_begins pair fm sm three apart offset c.requires.first c.requires.second c.requires.three
     c.requires.apart c.min.ensures haystack c.args.span c.requires.valid _
     (λ p later earlier inside. none_by pair fm sm three apart offset c.requires.first c.requires.second c.requires.three
     c.requires.apart c.min.ensures haystack start (at + passed) _
     (λ q above below. omega arith) none p later earlier)
 
-pub returns-then-zeros_before-lt-LANES-clause-stops : goal.returns-then-zeros_before-lt-LANES-clause-stops
-returns-then-zeros_before-lt-LANES-clause-stops c =
+pub returns-then-stop-lt-WIDE-clause-stops : goal.returns-then-stop-lt-WIDE-clause-stops
+returns-then-stop-lt-WIDE-clause-stops c =
     let pair = c.args.self.now in
     let fm = c.args.first_mask in
     let sm = c.args.second_mask in
@@ -145,36 +140,14 @@ returns-then-zeros_before-lt-LANES-clause-stops c =
     let at = c.loop-at.at in
     let before = c.loop-at.invariant in
     let after : start ≤ at = omega (arith, before.low) in
-    let later : start ≤ at + 16 = omega (arith, before.low) in
-    let one = c.compare-one.ensures haystack start at after c.load-in-loop-at.ensures.lanes in
-    let two = c.compare-two.ensures haystack start (at + 16) later c.load-in-loop-at-2.ensures.lanes in
-    let front = c.pairs_after-front.ensures pair fm sm haystack start at before.before one in
-    let back = c.pairs_after-back.ensures pair fm sm haystack start (at + 16) one two in
-    let passed = c.zeros_before_both.result in
-    let zeros = c.zeros_before_both.ensures in
-    let behind = offset + apart in
-    elim (cases_lt passed 16) [
-      | inl in_front ↦ inl (has_pair pair fm sm three apart offset c.requires.first c.requires.second c.requires.three
-          c.requires.apart c.min.ensures haystack
-          start at c.pairs_after-front.result front after passed in_front (zeros.stops_front in_front)
-          (omega (arith, before.low, c.requires.apart, c.min.ensures)))
-      | inr not ↦ elim (cases_lt passed 32) [
-        | inl in_back ↦
-            let place : at + 16 + (passed - 16) ≡ at + passed = omega arith in
-            inl (subst (λ n. HasPair pair haystack (n - behind)) place
-            (has_pair pair fm sm three apart offset c.requires.first c.requires.second c.requires.three
-            c.requires.apart c.min.ensures haystack
-            start (at + 16) c.pairs_after-back.result back later
-            (passed - 16) (omega arith) (zeros.stops_back (omega arith) in_back)
-            (omega (arith, before.low, c.requires.apart, c.min.ensures))))
-        | inr none ↦
-            let all = zeros.none (omega arith) in
-            absurd (c.zeros_before.ensures.stops c.if-zeros_before-lt-LANES.true
-            (c.either.ensures.each c.zeros_before.result c.if-zeros_before-lt-LANES.true
-            ∙ none_of_either _ _ (all c.zeros_before.result c.if-zeros_before-lt-LANES.true).0
-            (all c.zeros_before.result c.if-zeros_before-lt-LANES.true).1))
-      ]
-    ]
+    let wide = c.compare_wide-wide.ensures haystack start at after c.load_wide.ensures.lanes in
+    let lanes = c.pairs_after-in-loop-at.ensures pair fm sm haystack start at before.before wide in
+    let passed = c.zeros_before_wide-stop.result in
+    let zeros = c.zeros_before_wide-stop.ensures in
+    inl (has_pair pair fm sm three apart offset c.requires.first c.requires.second c.requires.three
+    c.requires.apart c.min.ensures haystack start 32 at c.pairs_after-in-loop-at.result lanes after passed
+    c.if-stop-lt-WIDE.true (zeros.stops c.if-stop-lt-WIDE.true)
+    (omega (arith, before.low, c.requires.apart, c.min.ensures)))
 
 pub loop-at-preserved : goal.loop-at-preserved
 loop-at-preserved c =
@@ -189,23 +162,21 @@ loop-at-preserved c =
     let at = c.loop-at.at in
     let before = c.loop-at.invariant in
     let after : start ≤ at = omega (arith, before.low) in
-    let later : start ≤ at + 16 = omega (arith, before.low) in
-    let one = c.compare-one.ensures haystack start at after c.load-in-loop-at.ensures.lanes in
-    let two = c.compare-two.ensures haystack start (at + 16) later c.load-in-loop-at-2.ensures.lanes in
-    let front = c.pairs_after-front.ensures pair fm sm haystack start at before.before one in
-    let back = c.pairs_after-back.ensures pair fm sm haystack start (at + 16) one two in
-    let next : at + 16 + 16 ≡ at + 32 = omega arith in
-    let zero : (k : ℕ) → k < 16
-    → (get_or c.pairs_after-front.result k 0 ≡ 0) × (get_or c.pairs_after-back.result k 0 ≡ 0) =
-    λ k below. neither _ _ (sym (c.either.ensures.each k below)
-    ∙ c.zeros_before.ensures.zero k (omega (arith, c.if-zeros_before-lt-LANES.false))) in
+    let wide = c.compare_wide-wide.ensures haystack start at after c.load_wide.ensures.lanes in
+    let lanes = c.pairs_after-in-loop-at.ensures pair fm sm haystack start at before.before wide in
+    let passed = c.zeros_before_wide-stop.result in
+    let zeros = c.zeros_before_wide-stop.ensures in
     record {
       low = omega (arith, before.low);
       high = omega (arith, before.high, c.loop-at-test.true, c.saturating_sub-last.ensures);
-      before = subst (λ n. AreHits c.compare-two.result pair fm sm haystack start n) next two;
-      none = none_more_of_two pair fm sm three apart haystack start (omega (arith, c.requires.apart)) at
-          c.pairs_after-front.result c.pairs_after-back.result front back after 32 (omega arith)
-          (λ k below under. (zero k under).0) (λ k below. (zero k (omega arith)).1) before.none;
+      before = record {
+        first = back_hits pair.first.byte fm haystack start at _ wide.first;
+        between = back_hits pair.between fm haystack start at _ wide.between;
+        second = back_hits pair.second.byte sm haystack start at _ wide.second;
+      };
+      none = none_more pair fm sm three apart haystack start (omega (arith, c.requires.apart)) 32 at
+          c.pairs_after-in-loop-at.result lanes after 32 (omega arith)
+          (λ k below. zeros.zero k (omega (arith, c.if-stop-lt-WIDE.false))) before.none;
       scanned = search rules;
     }
 
@@ -239,9 +210,10 @@ returns-then-passed-lt-LANES-2-clause-passed c =
     let before = c.loop-at.invariant in
     let after : start ≤ at = omega (arith, before.low) in
     let last = c.compare-last.ensures haystack start at after c.load-2.ensures.lanes in
-    let lanes = c.pairs_after-2.ensures pair fm sm haystack start at before.before last in
+    let lanes = c.pairs_after-2.ensures pair fm sm haystack start at
+    (c.back.ensures pair fm sm haystack start at before.before) last in
     let passed = c.zeros_before-passed-2.result in
-    let none = none_more pair fm sm three apart haystack start (omega (arith, c.requires.apart)) at
+    let none = none_more pair fm sm three apart haystack start (omega (arith, c.requires.apart)) 16 at
     c.pairs_after-2.result lanes after passed c.zeros_before-passed-2.ensures.few
     c.zeros_before-passed-2.ensures.zero before.none in
     no_pair_begins pair fm sm three apart offset c.requires.first c.requires.second c.requires.three
@@ -264,10 +236,11 @@ returns-then-passed-lt-LANES-2-clause-stops c =
     let before = c.loop-at.invariant in
     let after : start ≤ at = omega (arith, before.low) in
     let last = c.compare-last.ensures haystack start at after c.load-2.ensures.lanes in
-    let lanes = c.pairs_after-2.ensures pair fm sm haystack start at before.before last in
+    let lanes = c.pairs_after-2.ensures pair fm sm haystack start at
+    (c.back.ensures pair fm sm haystack start at before.before) last in
     let passed = c.zeros_before-passed-2.result in
     inl (has_pair pair fm sm three apart offset c.requires.first c.requires.second c.requires.three
-    c.requires.apart c.min.ensures haystack start at
+    c.requires.apart c.min.ensures haystack start 16 at
     c.pairs_after-2.result lanes after passed c.if-passed-lt-LANES-2.true
     (c.zeros_before-passed-2.ensures.stops c.if-passed-lt-LANES-2.true)
     (omega (arith, before.low, c.requires.apart, c.min.ensures)))
@@ -286,8 +259,9 @@ returns-clause-passed c =
     let before = c.loop-at.invariant in
     let after : start ≤ at = omega (arith, before.low) in
     let last = c.compare-last.ensures haystack start at after c.load-2.ensures.lanes in
-    let lanes = c.pairs_after-2.ensures pair fm sm haystack start at before.before last in
-    let none = none_more pair fm sm three apart haystack start (omega (arith, c.requires.apart)) at
+    let lanes = c.pairs_after-2.ensures pair fm sm haystack start at
+    (c.back.ensures pair fm sm haystack start at before.before) last in
+    let none = none_more pair fm sm three apart haystack start (omega (arith, c.requires.apart)) 16 at
     c.pairs_after-2.result lanes after 16 (omega arith)
     (λ k below. c.zeros_before-passed-2.ensures.zero k (omega (arith, c.if-passed-lt-LANES-2.false))) before.none in
     no_pair_begins pair fm sm three apart offset c.requires.first c.requires.second c.requires.three

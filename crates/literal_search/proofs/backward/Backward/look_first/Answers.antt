@@ -9,7 +9,7 @@ owed_few : (scan : Option CandidateScan) → owed_by scan ≤ OVERLAP
 owed_few None = omega arith
 owed_few (Some scan) = omega arith
 
--- the walk through the piece pays for what the scan owes
+-- the walk through the piece pays for what the scan owes, and for the walk at the candidate
 paid : (c : goal.After-pass_on-progress) (base : ℕ)
     → IsProgress c.args.self.now c.args.span (owed_by c.args.scan.now) base c.args.tally.now.scanned c.args.progress
     → IsProgress c.args.self.now c.args.span 0 base c.begun_in.new.tally.scanned (record {
@@ -23,12 +23,21 @@ paid c base progress = record {
   some = progress.some;
   long = progress.long;
   near = λ before. omega (arith, progress.near (omega (arith, before)));
-  least = omega (arith, progress.least, progress.inside, c.in_ok-begun.ensures.all, c.min.ensures);
+  least = omega (
+    arith,
+    progress.least,
+    progress.inside,
+    c.in_ok-here.ensures.all,
+    c.in_ok-begun.ensures.all,
+    c.min.ensures,
+  );
   most = omega (
     arith,
     progress.most,
-    progress.inside,
+    c.requires.inside,
+    c.in_ok-here.ensures.all,
     c.in_ok-begun.ensures.all,
+    c.saturating_add-len.ensures,
     c.min.ensures,
     owed_few c.args.scan.now,
   );

@@ -1,21 +1,19 @@
-use Rattle.std.proofs.Common.{◌<◌, IfSome, ◌≡◌, ◌+◌, ◌-◌, ◌*◌, ◌≤◌}
-use Rattle.literal_search.specs.Prepared.{scan_by, past_skipped}
+use Rattle.std.proofs.Common.{◌≡◌, ◌+◌, ◌-◌, ◌*◌, ◌≤◌}
 use Rattle.literal_search.specs.Inside.NextEnd.{HasComeTo}
 use Rattle.literal_search.specs.declared.scan.TheConstants.{LONGEST}
 use Rattle.literal_search.proofs.walk.Table.next_end.Given as goal
 
-abbrev pub invariant-loop-scan : goal.invariant-loop-scan
-invariant-loop-scan l = record {
+abbrev pub invariant-loop-rest : goal.invariant-loop-rest
+invariant-loop-rest l = record {
   after : l.fn.span.start ≤ l.start;
   inside : l.start ≤ l.fn.span.end;
   short : l.near ≤ 6 * LONGEST;
   far : l.nearest ≤ l.near;
-  kept : IfSome l.scan (λ f. (0 < past_skipped l.prints) × (f ≡ scan_by l.prints));
   comes : HasComeTo l.self l.prints l.haystack l.fn.from l.fn.span (record { row = l.from; end = l.start });
   others : l.tally ≡ record l.fn.tally { scanned = l.tally.scanned };
   least : l.fn.tally.scanned + l.start ≤ l.tally.scanned + l.fn.span.start;
   most : l.tally.scanned + 3 * l.fn.span.start ≤ l.fn.tally.scanned + 3 * l.start;
 }
 
-abbrev pub decreases-loop-scan : goal.decreases-loop-scan
-decreases-loop-scan l = l.end - l.start
+abbrev pub decreases-loop-rest : goal.decreases-loop-rest
+decreases-loop-rest l = l.end - l.start

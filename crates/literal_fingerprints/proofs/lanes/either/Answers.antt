@@ -1,6 +1,0 @@
-use Rattle.std.proofs.Common.{bit_or}
-use Rattle.literal_fingerprints.proofs.lemmas.Lanes.{lanes_of_two}
-use Rattle.literal_fingerprints.proofs.lanes.either.Goals as goal
-
-pub returns : goal.returns
-returns c = lanes_of_two bit_or c.args.one c.args.other c.fits-one.0 c.fits-other.0
