@@ -13,10 +13,10 @@ use std::marker::Model;
 impl WholeWords {
     /// Returns an iterator over all whole words in the text that a reader gives. They are those of
     /// [`WholeWords::find_iter`] in the whole text, with offsets in the whole text, whatever pieces it comes in. The
-    /// buffer has two bytes more than that of [`Search::find_stream`](crate::Search::find_stream). A word is given once
-    /// twice the longest pattern's length and two bytes are read from where the search continues, or the text has
-    /// ended. If reading fails, all words that are known from the bytes read come before the error. A word at their end
-    /// is not known, since a word byte may follow.
+    /// buffer has at most three bytes more than that of [`Search::find_stream`](crate::Search::find_stream). A word is
+    /// given once twice the longest pattern's length and at most two bytes more are read from where the search
+    /// continues, or the text has ended. If reading fails, all words that are known from the bytes read come before the
+    /// error. A word at their end is not known, since a word byte may follow.
     ///
     /// ```rust
     /// let words = [b"new york".as_slice(), b"york"];
