@@ -1,10 +1,13 @@
 -- A text in which matches are made unreadable.
-use Rattle.std.specs.Prelude.{ℕ, ◌-◌, List, Option, replicate}
+use Rattle.std.specs.Prelude.{◌≡◌, ℕ, ◌-◌, List, Option, replicate}
 use Rattle.std.specs.Io.KnownBytes.{Appends, Consumes, IsAtEnd}
 use Rattle.literal_base.specs.Greedy.{IsGreedy}
 use Rattle.literal_base.specs.MatchValue.{MatchValue}
 use Rattle.literal_search.specs.Replaced.{replaced_by}
 use Rattle.literal_search.specs.SearchValue.{SearchValue}
+use Rattle.literal_search.specs.declared.replace_stream.ReplaceStreamError.{ReplaceStreamError}
+use Rattle.literal_search.specs.declared.replace_stream.ReplaceStreamError.TheVariants.{NotOneForEach, OutOfMemory}
+use Rattle.literal_search.specs.declared.replace_stream.ReplaceStreamError.TheVariants.{ReadFailed, WriteFailed}
 
 -- the text from an offset on, with each byte of a match replaced by an asterisk
 abbrev pub redacted : List ℕ → ℕ → List MatchValue → List ℕ
@@ -18,3 +21,12 @@ pub record Redacts (search : SearchValue) (unread left held written : Option (Li
   pub end : IsAtEnd left
   pub are_greedy : IsGreedy search.query search.ignore_case text 0 matches
   pub writes : Appends held written (redacted text 0 matches)
+
+-- why it is not written so: memory was refused, and nothing is read or written; or a read or a write failed, after a
+-- text was read
+abbrev pub StopsRedacting : Option (List ℕ) → Option (List ℕ) → Option (List ℕ) → Option (List ℕ)
+    → ReplaceStreamError → Type 0
+StopsRedacting unread left held written NotOneForEach = ⊥
+StopsRedacting unread left held written OutOfMemory = (left ≡ unread) × (written ≡ held)
+StopsRedacting unread left held written (ReadFailed error) = (text : List ℕ) × Consumes unread left text
+StopsRedacting unread left held written (WriteFailed error) = (text : List ℕ) × Consumes unread left text

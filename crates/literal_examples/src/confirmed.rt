@@ -40,8 +40,8 @@ fn is_bracket(text: &[u8], at: usize) -> bool
 }
 
 /// The match of the first pattern in the list that occurs at an offset with an opening bracket after it. So with the
-/// names `foo` and `foo1`, the text `foo1(` has a call of `foo1`, although `foo` is preferred where both are followed
-/// by a bracket. The search has to prefer the longest match.
+/// names `foo`, `foo1` and `foo(`, the text `foo1(` has a call of `foo1`, and `foo((` one of `foo`. The search has to
+/// prefer the longest match.
 pub fn call_at(search: &Search, text: &[u8], at: usize) -> Option<Match>
     requires inside { at ≤ length text.now }
     requires longest { search.now.query.kind ≡ LeftmostLongest }

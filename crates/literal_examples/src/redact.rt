@@ -1,9 +1,9 @@
 //! Makes every match unreadable.
-ghost use Rattle.std.specs.Prelude.{◌≡◌, ◌<◌, List, IfOk, OnErr, OnOk, length, replicate};
+ghost use Rattle.std.specs.Prelude.{◌≡◌, ◌<◌, List, IfErr, IfOk, OnErr, OnOk, length, replicate};
 ghost use Rattle.std.specs.Io.KnownBytes.{Appends};
 ghost use Rattle.literal_base.specs.Greedy.{IsGreedy};
 ghost use Rattle.literal_base.specs.MatchValue.{MatchValue};
-ghost use Rattle.literal_examples.specs.Redacted.{Redacts, redacted};
+ghost use Rattle.literal_examples.specs.Redacted.{Redacts, StopsRedacting, redacted};
 
 use literal_search::{Match, ReplaceStreamError, Search};
 use std::alloc::{AllocError, Global};
@@ -27,14 +27,16 @@ pub fn redact(alloc: Global, search: &Search, haystack: &[u8]) -> Result<Vec<u8>
 }
 
 /// Like [`redact`], but it reads the text in pieces, and writes what is known of the result. Only a window of the text
-/// is kept.
+/// is kept. Each asterisk is a write of its own, so the writer should be buffered.
 pub fn redact_stream<R: Read, W: Write>(
     alloc: Global,
     search: &Search,
     reader: &mut R,
     writer: &mut W,
 ) -> Result<(), ReplaceStreamError>
-    ensures { OnOk result (Redacts search.now (R.remaining reader.old) (R.remaining reader.new)
+    ensures written { OnOk result (Redacts search.now (R.remaining reader.old) (R.remaining reader.new)
+        (W.contents writer.old) (W.contents writer.new)) }
+    ensures error { IfErr result (StopsRedacting (R.remaining reader.old) (R.remaining reader.new)
         (W.contents writer.old) (W.contents writer.new)) }
 {
     search.replace_stream_with(

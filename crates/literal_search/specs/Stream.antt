@@ -56,7 +56,7 @@ pub record ScansSoFar (longest len at : ℕ) (answer : SoFar) (old new : Counts)
       → new.scanned + 11 * at ≤ old.scanned + 11 * found.start + 36 * first_part longest
 
 -- a `StreamMatches` as contracts see it: the search, the bytes ahead that were read, the bytes still to be read if they
--- are known, the offset at which the bytes ahead begin, the kind of the error if reading failed, and whether it has
+-- are known, the offset at which the search continues, the kind of the error if reading failed, and whether it has
 -- ended
 pub record StreamValue : Type 0 where
   pub search : SearchValue

@@ -4,7 +4,7 @@ ghost use Rattle.std.specs.Prelude.{◌≡◌, ◌-◌, ◌<◌, ◌≤◌, ◌^
 ghost use Rattle.std.specs.List.{range_with_len};
 ghost use Rattle.literal_search.specs.Inside.Classes.{symbols_in};
 ghost use Rattle.literal_search.specs.Inside.Prefixes.{AreFirstPrefixes, AreInOrder, AreLastPrefixes, AreSorted};
-ghost use Rattle.literal_search.specs.Inside.Prefixes.{IsLastPrefix, numbers_in, words_in};
+ghost use Rattle.literal_search.specs.Inside.Prefixes.{IsLastPrefix, numbers_in, symbols_in_order};
 ghost use Rattle.literal_search.specs.Inside.Shadowed.{texts_by};
 
 use std::alloc::{AllocError, Global};
@@ -44,11 +44,11 @@ pub fn first_prefixes(
 
 /// The index of the last one before this one that is a prefix of it. `before` has these indices for all before it.
 fn last_prefix(sorted: &[Numbered], before: &[Option<usize>], index: usize) -> Option<usize>
-    requires sorted { AreInOrder (words_in sorted.now) }
-    requires before { AreLastPrefixes (words_in sorted.now) before.now }
+    requires sorted { AreInOrder (symbols_in_order sorted.now) }
+    requires before { AreLastPrefixes (symbols_in_order sorted.now) before.now }
     requires here { length before.now ≡ index }
     requires inside { index < length sorted.now }
-    ensures { IsLastPrefix (words_in sorted.now) index result }
+    ensures { IsLastPrefix (symbols_in_order sorted.now) index result }
 {
     let mut last = index.checked_sub(1);
     while let Some(at) = last {
@@ -67,7 +67,7 @@ fn sorted(
     patterns: &[Vec<u8>],
 ) -> Result<Vec<Numbered>, AllocError>
     requires { length patterns.now ≤ 2 ^ 31 - 1 }
-    ensures { IfOk result (λ all. AreSorted (texts_by classes.now patterns.now) (words_in all.items)
+    ensures { IfOk result (λ all. AreSorted (texts_by classes.now patterns.now) (symbols_in_order all.items)
         (numbers_in all.items)) }
 {
     let mut all = with_numbers(alloc, classes, patterns)?;
@@ -82,7 +82,7 @@ fn with_numbers(
     patterns: &[Vec<u8>],
 ) -> Result<Vec<Numbered>, AllocError>
     requires { length patterns.now ≤ 2 ^ 31 - 1 }
-    ensures words { IfOk result (λ all. words_in all.items ≡ texts_by classes.now patterns.now) }
+    ensures words { IfOk result (λ all. symbols_in_order all.items ≡ texts_by classes.now patterns.now) }
     ensures numbers { IfOk result (λ all. numbers_in all.items ≡ range_with_len 0 (length patterns.now)) }
 {
     let mut all = Vec::new(alloc);

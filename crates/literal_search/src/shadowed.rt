@@ -37,8 +37,7 @@ pub(crate) fn backward_rows(
     }
 }
 
-/// The rows for the reversed patterns, where each pattern that has others as prefixes is replaced by the first of them
-/// in the list.
+/// The rows for the reversed patterns, each replaced by the first in the list of its prefixes, which include itself.
 fn first_rows(alloc: Global, classes: &Classes, patterns: &[Vec<u8>]) -> Result<Vec<u32>, GrowError>
     requires classes { AreClasses classes.now.table classes.now.width }
     requires patterns { CanBeKept (map (λ pattern. pattern.items) patterns.now) }

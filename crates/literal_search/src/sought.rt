@@ -16,7 +16,7 @@ pub(crate) enum Sought<'s> {
 }
 
 impl<'s> Sought<'s> {
-    /// The leftmost one in a span, which has to be valid. Bytes next to the span count too.
+    /// The leftmost one in a span, which has to be valid. For words the bytes next to the span count too.
     pub(crate) fn find_in(self, haystack: &[u8], span: Span) -> Option<Match>
         requires { IsValidSpan haystack.now span }
         ensures first { IsFirstIn self.entry haystack.now span result }

@@ -69,7 +69,8 @@ impl Search {
     /// the whole text, with offsets in the whole text, whatever pieces it comes in. The buffer has twice the longest
     /// pattern's length, plus 64 KiB or that length, whichever is more. A match is given once twice the longest
     /// pattern's length is read from where the search continues, or the text has ended. If reading fails, all matches
-    /// that are known from the bytes read come before the error.
+    /// that are known from the bytes read come before the error. An interrupted read is an error too. Each match takes
+    /// a search of its own, so with long patterns a list of frequent matches in memory is faster.
     ///
     /// ```rust
     /// let words = [b"password".as_slice(), b"secret"];

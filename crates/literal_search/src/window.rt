@@ -7,10 +7,10 @@ use crate::reading::Reading;
 use std::alloc::{AllocError, Global};
 use std::io::Read;
 
-/// The least number of bytes that one read asks for.
+/// The number of bytes for which an empty window has room beside what a search needs.
 const BLOCK: usize = 1 << 16;
 
-/// The last bytes that were read, from the offset at which a search continues.
+/// The last bytes that were read, from the offset at which a search continues, or from a byte before it.
 #[derive(Drop)]
 pub(crate) struct Window {
     bytes: Vec<u8>,

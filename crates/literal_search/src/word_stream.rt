@@ -16,7 +16,7 @@ impl WholeWords {
     /// buffer has at most three bytes more than that of [`Search::find_stream`](crate::Search::find_stream). A word is
     /// given once twice the longest pattern's length and at most two bytes more are read from where the search
     /// continues, or the text has ended. If reading fails, all words that are known from the bytes read come before the
-    /// error. A word at their end is not known, since a word byte may follow.
+    /// error: all but those that begin in the last bytes read, no more than the longest pattern has.
     ///
     /// ```rust
     /// let words = [b"new york".as_slice(), b"york"];

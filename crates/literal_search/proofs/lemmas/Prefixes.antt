@@ -25,21 +25,21 @@ use Rattle.std.proofs.lemmas.List.Sorted.{All-permutation, Contains-permutation}
 use Rattle.std.proofs.lemmas.List.MinMax.{ranks_by}
 use Rattle.literal_search.specs.declared.prefixes.Numbered.{Numbered}
 use Rattle.literal_base.specs.Occurs.{pattern_at}
-use Rattle.literal_search.specs.Inside.Prefixes.{AreInOrder, AreLastPrefixes, AreSorted, Begins, IsFirstPrefix}
-use Rattle.literal_search.specs.Inside.Prefixes.{IsLastPrefix, numbers_in, words_in}
+use Rattle.literal_search.specs.Inside.Prefixes.{AreInOrder, AreLastPrefixes, AreSorted, StartsWith, IsFirstPrefix}
+use Rattle.literal_search.specs.Inside.Prefixes.{IsLastPrefix, numbers_in, symbols_in_order}
 
 -- a text that begins with a word is the word and the rest, and back
-begun : (text word : List ℕ) → Begins text word → text ≡ word ++ drop (length word) text
+begun : (text word : List ℕ) → StartsWith text word → text ≡ word ++ drop (length word) text
 begun text word is = (starts_is Decides-eqb text word _ refl).0 is
 
-begins_by : (text word rest : List ℕ) → text ≡ word ++ rest → Begins text word
+begins_by : (text word rest : List ℕ) → text ≡ word ++ rest → StartsWith text word
 begins_by text word rest split = (starts_is Decides-eqb text word _ refl).1 rest split
 
-pub begins_itself : (text : List ℕ) → Begins text text
+pub begins_itself : (text : List ℕ) → StartsWith text text
 begins_itself text = begins_by text text [] (sym (append-nil text))
 
 -- a prefix of a prefix is one
-pub begins_on : (text middle word : List ℕ) → Begins text middle → Begins middle word → Begins text word
+pub begins_on : (text middle word : List ℕ) → StartsWith text middle → StartsWith middle word → StartsWith text word
 begins_on text middle word one other =
     let rest = drop (length middle) text in
     let tail = drop (length word) middle in
@@ -71,8 +71,8 @@ between_both (x ∷ word) (y ∷ middle) rest first second =
     (λ is. second (ap (λ o. ordering_then o (slice_cmp nat_cmp middle (word ++ rest))) back ∙ is)) in
     (further.0, ap (λ n. n ∷ middle) (sym same) ∙ ap (λ (l : List ℕ). x ∷ l) further.1)
 
-pub begins_between : (text middle word : List ℕ) → Begins text word → slice_cmp nat_cmp word middle ≢ Greater
-    → slice_cmp nat_cmp middle text ≢ Greater → Begins middle word
+pub begins_between : (text middle word : List ℕ) → StartsWith text word → slice_cmp nat_cmp word middle ≢ Greater
+    → slice_cmp nat_cmp middle text ≢ Greater → StartsWith middle word
 begins_between text middle word is first second =
     let tail = between_both word middle (drop (length word) text) first
     (subst (λ (t : List ℕ). slice_cmp nat_cmp middle t ≢ Greater) (begun text word is) second) in
@@ -86,7 +86,7 @@ no_more (x ∷ word) rest first =
     no_more word rest (λ is. first (ap (λ o. ordering_then o (slice_cmp nat_cmp (word ++ rest) word))
     (sym (nat_cmp_is x x Equal refl)) ∙ is))
 
-pub same_as_prefix : (text word : List ℕ) → Begins text word → slice_cmp nat_cmp text word ≢ Greater → text ≡ word
+pub same_as_prefix : (text word : List ℕ) → StartsWith text word → slice_cmp nat_cmp text word ≢ Greater → text ≡ word
 same_as_prefix text word is first =
     let rest = drop (length word) text in
     let split = begun text word is in
@@ -96,22 +96,22 @@ same_as_prefix text word is first =
 -- the words before this one that are a prefix of it are not after an offset, if there is one
 abbrev pub IsUpTo : List (List ℕ) → ℕ → Option ℕ → Type 0
 IsUpTo words index answer = MatchOption answer
-    ((k : ℕ) → k < index → ¬ Begins (pattern_at words index) (pattern_at words k))
+    ((k : ℕ) → k < index → ¬ StartsWith (pattern_at words index) (pattern_at words k))
     (λ last. (last < index)
-    × ((k : ℕ) → k < index → Begins (pattern_at words index) (pattern_at words k) → k ≤ last))
+    × ((k : ℕ) → k < index → StartsWith (pattern_at words index) (pattern_at words k) → k ≤ last))
 
 -- if that one is none, they are not after the last of its own prefixes
 pub step_back : (words : List (List ℕ)) (sorted : AreInOrder words) (index at : ℕ) → index < length words
-    → IsUpTo words index (Some at) → ¬ Begins (pattern_at words index) (pattern_at words at) → (answer : Option ℕ)
+    → IsUpTo words index (Some at) → ¬ StartsWith (pattern_at words index) (pattern_at words at) → (answer : Option ℕ)
     → IsLastPrefix words at answer → IsUpTo words index answer
 step_back words sorted index at inside upto fails answer last = by answer last
   where
-    earlier : (k : ℕ) → k < index → Begins (pattern_at words index) (pattern_at words k)
-        → (k < at) × Begins (pattern_at words at) (pattern_at words k)
+    earlier : (k : ℕ) → k < index → StartsWith (pattern_at words index) (pattern_at words k)
+        → (k < at) × StartsWith (pattern_at words at) (pattern_at words k)
     earlier k below begins =
         let least = upto.1 k below begins in
         let differs : k ≢ at = λ same.
-        fails (subst (λ n. Begins (pattern_at words index) (pattern_at words n)) same begins) in
+        fails (subst (λ n. StartsWith (pattern_at words index) (pattern_at words n)) same begins) in
         let before : k < at = omega (arith, least, differs) in (
           before,
           begins_between (pattern_at words index) (pattern_at words at) (pattern_at words k) begins
@@ -134,7 +134,7 @@ module _ (texts words : List (List ℕ)) (numbers : List ℕ) (sorted : AreSorte
   number = get_or numbers index 0
 
   -- none that is a prefix of this one, from here on, has a smaller number
-  later : (k : ℕ) → index ≤ k → k < length words → Begins (pattern_at words index) (pattern_at words k)
+  later : (k : ℕ) → index ≤ k → k < length words → StartsWith (pattern_at words index) (pattern_at words k)
       → number ≤ get_or numbers k 0
   later k after below begins =
       elim (cases_lt index k) [
@@ -145,8 +145,8 @@ module _ (texts words : List (List ℕ)) (numbers : List ℕ) (sorted : AreSorte
             omega (arith, ap (λ n. get_or numbers n 0) same)
       ]
 
-  own : Begins (pattern_at words index) (pattern_at texts number)
-  own = subst (Begins (pattern_at words index)) (sorted.is index inside).1 (begins_itself (pattern_at words index))
+  own : StartsWith (pattern_at words index) (pattern_at texts number)
+  own = subst (StartsWith (pattern_at words index)) (sorted.is index inside).1 (begins_itself (pattern_at words index))
 
   -- without a prefix before it, it is its own first one
   pub first_itself : IsLastPrefix words index None → IsFirstPrefix texts (pattern_at words index) number
@@ -157,7 +157,7 @@ module _ (texts words : List (List ℕ)) (numbers : List ℕ) (sorted : AreSorte
         let (k, here, is) = sorted.has j below in
         let at : pattern_at words k ≡ pattern_at texts j =
         (sorted.is k here).1 ∙ ap (pattern_at texts) is in
-        let this = subst (Begins (pattern_at words index)) (sym at) begins in
+        let this = subst (StartsWith (pattern_at words index)) (sym at) begins in
         elim (cases_lt k index) [
           | inl before ↦ absurd (none k before this)
           | inr after ↦ omega (arith, is, later k (omega (arith, after)) here this)
@@ -171,9 +171,9 @@ module _ (texts words : List (List ℕ)) (numbers : List ℕ) (sorted : AreSorte
   first_of_last last first is known = record {
     is_text = omega (arith, (sorted.is index inside).0, known.is_text);
     begins = elim (cases_lt number first) [
-      | inl less ↦ subst (λ n. Begins (pattern_at words index) (pattern_at texts n))
+      | inl less ↦ subst (λ n. StartsWith (pattern_at words index) (pattern_at texts n))
           (let same : number ≡ min number first = omega (arith, less) in same) own
-      | inr not ↦ subst (λ n. Begins (pattern_at words index) (pattern_at texts n))
+      | inr not ↦ subst (λ n. StartsWith (pattern_at words index) (pattern_at texts n))
           (let same : first ≡ min number first = omega (arith, not) in same)
           (begins_on (pattern_at words index) (pattern_at words last) (pattern_at texts first) is.1 known.begins)
     ];
@@ -181,21 +181,21 @@ module _ (texts words : List (List ℕ)) (numbers : List ℕ) (sorted : AreSorte
         let (k, here, number_is) = sorted.has j below in
         let at : pattern_at words k ≡ pattern_at texts j =
         (sorted.is k here).1 ∙ ap (pattern_at texts) number_is in
-        let this = subst (Begins (pattern_at words index)) (sym at) begins in
+        let this = subst (StartsWith (pattern_at words index)) (sym at) begins in
         elim (cases_lt k index) [
           | inl before ↦
               let upto = is.2 k before this in
               let within = begins_between (pattern_at words index) (pattern_at words last) (pattern_at words k) this
               (sorted.ordered k last upto (omega (arith, is.0, inside)))
               (sorted.ordered last index (omega (arith, is.0)) inside) in
-              omega (arith, known.least j below (subst (Begins (pattern_at words last)) at within))
+              omega (arith, known.least j below (subst (StartsWith (pattern_at words last)) at within))
           | inr after ↦ omega (arith, number_is, later k (omega (arith, after)) here this)
         ];
   }
 
 -- the word and the number of one
 pub word_at : (all : List Numbered) (k : ℕ) (d : Numbered) → k < length all
-    → pattern_at (words_in all) k ≡ (get_or all k d).symbols.items
+    → pattern_at (symbols_in_order all) k ≡ (get_or all k d).symbols.items
 word_at all k d below = get_or-map (λ (n : Numbered). n.symbols.items) all k d [] below
 
 pub number_at : (all : List Numbered) (k : ℕ) (d : Numbered) → k < length all
@@ -270,9 +270,9 @@ abbrev IsGiven : List (List ℕ) → Numbered → Type 0
 IsGiven texts n = (n.number < length texts) × (n.symbols.items ≡ pattern_at texts n.number)
 
 -- patterns with their numbers, sorted
-pub are_sorted : (texts : List (List ℕ)) (given all : List Numbered) → words_in given ≡ texts
+pub are_sorted : (texts : List (List ℕ)) (given all : List Numbered) → symbols_in_order given ≡ texts
     → numbers_in given ≡ range_with_len 0 (length texts) → IsPermutation given all
-    → IsSortedBy (λ x y. is_lt (in_order x y)) all → AreSorted texts (words_in all) (numbers_in all)
+    → IsSortedBy (λ x y. is_lt (in_order x y)) all → AreSorted texts (symbols_in_order all) (numbers_in all)
 are_sorted texts given all words numbers moved rises = record {
   long = length-map all (λ (n : Numbered). n.number) ∙ sym many;
   is = λ k below.
@@ -298,7 +298,7 @@ are_sorted texts given all words numbers moved rises = record {
       let second = word_at all k d inside in
       let not = not_greater (get_or all j d).symbols.items (get_or all k d).symbols.items
       (nat_cmp (get_or all k d).number (get_or all j d).number) (not_less all rises j k d upto inside) in
-      subst (λ (w : List ℕ). slice_cmp nat_cmp w (pattern_at (words_in all) k) ≢ Greater) (sym first)
+      subst (λ (w : List ℕ). slice_cmp nat_cmp w (pattern_at (symbols_in_order all) k) ≢ Greater) (sym first)
       (subst (λ (w : List ℕ). slice_cmp nat_cmp (get_or all j d).symbols.items w ≢ Greater) (sym second) not);
   ties = λ j k before below same.
       let inside : k < length all = omega (arith, below, many) in
@@ -315,7 +315,7 @@ are_sorted texts given all words numbers moved rises = record {
       omega (arith, not, number_at all j d (omega (arith, inside, before)), number_at all k d inside);
 }
   where
-    many : length (words_in all) ≡ length all
+    many : length (symbols_in_order all) ≡ length all
     many = length-map all (λ (n : Numbered). n.symbols.items)
 
     given_long : length given ≡ length texts

@@ -9,14 +9,14 @@ use Rattle.literal_base.specs.Occurs.{pattern_at}
 use Rattle.literal_search.specs.declared.prefixes.Numbered.{Numbered}
 
 -- the text begins with a word
-abbrev pub Begins : List ℕ → List ℕ → Type 0
-Begins text word = starts_with nat_eq text word ≡ true
+abbrev pub StartsWith : List ℕ → List ℕ → Type 0
+StartsWith text word = starts_with nat_eq text word ≡ true
 
 -- this text is the first of a list that is a prefix of another
 pub record IsFirstPrefix (texts : List (List ℕ)) (text : List ℕ) (first : ℕ) : Type 0 where
   pub is_text : first < length texts
-  pub begins : Begins text (pattern_at texts first)
-  pub least : (j : ℕ) → j < length texts → Begins text (pattern_at texts j) → first ≤ j
+  pub begins : StartsWith text (pattern_at texts first)
+  pub least : (j : ℕ) → j < length texts → StartsWith text (pattern_at texts j) → first ≤ j
 
 -- each text has the first one that is a prefix of it
 pub record AreFirstPrefixes (texts : List (List ℕ)) (firsts : List ℕ) : Type 0 where
@@ -24,8 +24,8 @@ pub record AreFirstPrefixes (texts : List (List ℕ)) (firsts : List ℕ) : Type
   pub each : (i : ℕ) → i < length texts → IsFirstPrefix texts (pattern_at texts i) (slice_index firsts i)
 
 -- the patterns as texts of classes
-abbrev pub words_in : List Numbered → List (List ℕ)
-words_in all = map (λ (n : Numbered). n.symbols.items) all
+abbrev pub symbols_in_order : List Numbered → List (List ℕ)
+symbols_in_order all = map (λ (n : Numbered). n.symbols.items) all
 
 -- their numbers
 abbrev pub numbers_in : List Numbered → List ℕ
@@ -49,9 +49,9 @@ pub record AreSorted (texts words : List (List ℕ)) (numbers : List ℕ) : Type
 -- the last of the words before this one that is a prefix of it, if there is one
 abbrev pub IsLastPrefix : List (List ℕ) → ℕ → Option ℕ → Type 0
 IsLastPrefix words index answer = MatchOption answer
-    ((k : ℕ) → k < index → ¬ Begins (pattern_at words index) (pattern_at words k))
-    (λ last. (last < index) × Begins (pattern_at words index) (pattern_at words last)
-    × ((k : ℕ) → k < index → Begins (pattern_at words index) (pattern_at words k) → k ≤ last))
+    ((k : ℕ) → k < index → ¬ StartsWith (pattern_at words index) (pattern_at words k))
+    (λ last. (last < index) × StartsWith (pattern_at words index) (pattern_at words last)
+    × ((k : ℕ) → k < index → StartsWith (pattern_at words index) (pattern_at words k) → k ≤ last))
 
 -- these, for the first of some words
 abbrev pub AreLastPrefixes : List (List ℕ) → List (Option ℕ) → Type 0

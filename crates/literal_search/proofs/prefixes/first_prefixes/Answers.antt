@@ -3,7 +3,8 @@ use Rattle.std.proofs.lemmas.List.{get_or_default, length-map, length-set, lengt
 use Rattle.std.specs.Global.{Vec}
 use Rattle.literal_base.specs.Occurs.{pattern_at}
 use Rattle.literal_search.specs.Inside.Classes.{symbols_in}
-use Rattle.literal_search.specs.Inside.Prefixes.{AreLastPrefixes, IsFirstPrefix, IsLastPrefix, numbers_in, words_in}
+use Rattle.literal_search.specs.Inside.Prefixes.{AreLastPrefixes, IsFirstPrefix, IsLastPrefix}
+use Rattle.literal_search.specs.Inside.Prefixes.{numbers_in, symbols_in_order}
 use Rattle.literal_search.specs.Inside.Shadowed.{texts_by}
 use Rattle.literal_search.specs.declared.prefixes.Numbered.{Numbered}
 use Rattle.literal_search.proofs.lemmas.Prefixes.{first_itself, first_of_last, firsts_more, number_at, prefixed_more}
@@ -19,10 +20,10 @@ pub loop-index-preserved : goal.loop-index-preserved
 loop-index-preserved c =
     let index = c.loop-index.index in
     let sorted = c.in_ok-sorted.sorted.items in
-    let words = words_in sorted in
+    let words = symbols_in_order sorted in
     let texts = texts_by c.args.classes.now c.args.patterns.now in
     let are = c.in_ok-sorted.ensures in
-    let last = subst (λ (s : List Numbered). IsLastPrefix (words_in s) index c.last_prefix-last.result)
+    let last = subst (λ (s : List Numbered). IsLastPrefix (symbols_in_order s) index c.last_prefix-last.result)
     c.deref.ensures.value c.last_prefix-last.ensures in
     let many = length-map sorted (λ (n : Numbered). n.symbols.items) in
     let inside : index < length words = omega (arith, c.loop-index-test.true, c.len-index-end.ensures, many) in

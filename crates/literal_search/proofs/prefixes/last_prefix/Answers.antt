@@ -3,7 +3,7 @@ use Rattle.std.proofs.lemmas.Bool.{false≢true}
 use Rattle.std.proofs.lemmas.List.{length-map}
 use Rattle.std.specs.List.{starts_with}
 use Rattle.literal_base.specs.Occurs.{pattern_at}
-use Rattle.literal_search.specs.Inside.Prefixes.{words_in}
+use Rattle.literal_search.specs.Inside.Prefixes.{symbols_in_order}
 use Rattle.literal_search.specs.declared.prefixes.Numbered.{Numbered}
 use Rattle.literal_search.proofs.lemmas.Prefixes.{IsUpTo, step_back, word_at}
 use Rattle.literal_search.proofs.prefixes.last_prefix.Goals as goal
@@ -11,7 +11,7 @@ use Rattle.literal_search.proofs.prefixes.last_prefix.Goals as goal
 pub loop-last-preserved : goal.loop-last-preserved
 loop-last-preserved c =
     let sorted = c.args.sorted.now in
-    let words = words_in sorted in
+    let words = symbols_in_order sorted in
     let index = c.args.index in
     let at = c.in-Some.at in
     let upto = subst (λ (o : Option ℕ). IsUpTo words index o) c.in-Some.is c.loop-last.invariant in

@@ -4,7 +4,7 @@ use Rattle.std.proofs.lemmas.List.FromFn.{map-range_with_len_more}
 use Rattle.std.specs.Global.{Vec}
 use Rattle.std.specs.List.{range_with_len}
 use Rattle.literal_search.specs.Inside.Classes.{symbols_in}
-use Rattle.literal_search.specs.Inside.Prefixes.{numbers_in, words_in}
+use Rattle.literal_search.specs.Inside.Prefixes.{numbers_in, symbols_in_order}
 use Rattle.literal_search.specs.Inside.Shadowed.{texts_by}
 use Rattle.literal_search.specs.declared.prefixes.Numbered.{Numbered}
 use Rattle.literal_search.proofs.prefixes.with_numbers.Goals as goal
@@ -21,7 +21,7 @@ loop-number-preserved c =
     let one : Numbered = record { symbols = symbols; number = n } in
     record {
       words =
-          ap words_in c.in_ok-push.ensures.items
+          ap symbols_in_order c.in_ok-push.ensures.items
           ∙ (map-append (λ (n : Numbered). n.symbols.items) c.loop-number.all.items (one ∷ [])
           ∙ (ap (λ (l : List (List ℕ)). l ++ symbols.items ∷ []) c.loop-number.invariant.words
           ∙ (ap (λ (l : List ℕ). texts_by classes (take n patterns) ++ l ∷ [])
