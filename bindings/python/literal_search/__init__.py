@@ -355,7 +355,7 @@ def _begin(
     if isinstance(patterns, (set, frozenset)) and kind == Kind.LEFTMOST_FIRST:
         raise TypeError("a set has no order, by which Kind.LEFTMOST_FIRST chooses: take a list, or LEFTMOST_LONGEST")
     values: Optional[Tuple[Any, ...]] = None
-    if type(patterns) not in (list, tuple):  # (which is faster to ask, and so they are neither of these)
+    if type(patterns) not in (list, tuple):  # (a list or tuple is neither a mapping nor one text)
         if isinstance(patterns, Mapping):  # (asked once, since it may change meanwhile)
             items = list(patterns.items())
             patterns, values = [key for key, _ in items], tuple(value for _, value in items)
