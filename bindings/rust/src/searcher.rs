@@ -17,6 +17,10 @@ use core::fmt;
 /// For so few patterns the search for the first occurrence is faster than the one for every occurrence.
 const FEW_PATTERNS: usize = 3;
 
+/// For how many bytes an occurrence counts, where every occurrence is listed: it takes about as long to list it as to
+/// look up so many bytes.
+const OCCURRENCE: usize = 4;
+
 /// Searches for any number of patterns.
 ///
 /// Threads may share it. A clone is the same search, and takes no memory. The calls whose names begin with `try_` return
@@ -37,6 +41,8 @@ pub(crate) struct Parts {
     pub leftmost: Leftmost,
     /// Whether iterations without flags list pages of matches, since no pattern is long.
     pub is_paged: bool,
+    /// The most patterns that can end at one offset, by a leftmost kind with a long pattern.
+    pub most_at_one_end: usize,
     /// The patterns, of which `every` is built; or their lengths alone, if it is never built.
     pub pieces: Pieces,
     /// The array for every occurrence. By a leftmost kind matches of long patterns may be picked from them.
@@ -214,20 +220,23 @@ impl AhoCorasick {
         }
     }
 
-    /// The earliest matches where the kind is a leftmost one. If a pattern is long, they are picked from every occurrence,
-    /// unless the array for that can't be built.
+    /// The earliest matches where the kind is a leftmost one. If a pattern is long, they are picked from every
+    /// occurrence, unless so many patterns can end at one offset that this takes longer, or the array can't be built.
     fn earliest_matches<'a, 'h>(&'a self, input: Input<'h>) -> FindIter<'a, 'h> {
-        let every = if self.parts.is_paged { None } else { self.built().ok() };
+        let may_pick = !self.parts.is_paged && self.close_len(1) > 0;
+        let every = if may_pick { self.built().ok() } else { None };
         match every.filter(|_| !input.get_anchored().is_anchored()) {
             Some(every) => FindIter::picked(FindOverlappingIter::new(every, &input)),
             None => FindIter::one_by_one(self, input),
         }
     }
 
-    /// In how many bytes so many matches lie so close together that it takes less to pick them from every occurrence, of
-    /// which each byte may end one for each pattern, than to search anew after each match.
+    /// In how many bytes so many matches lie so close together that it takes less to pick them from every occurrence
+    /// than to search anew after each match. The one looks up as many bytes as the longest pattern has, after each
+    /// match. The other lists as many occurrences for each byte as patterns can end at one offset.
     pub(crate) fn close_len(&self, count: usize) -> usize {
-        self.parts.longest.saturating_mul(count) / self.parts.patterns_len.max(1)
+        let Parts { longest, most_at_one_end, .. } = *self.parts;
+        longest.saturating_mul(count) / most_at_one_end.saturating_mul(OCCURRENCE).max(1)
     }
 
     /// The matches by a leftmost kind, picked from every occurrence, unless the array for that can't be built.
@@ -383,12 +392,9 @@ impl AhoCorasick {
     /// The search for every occurrence, if the match that is searched for is the one that ends first, and if by a leftmost
     /// kind the array is built.
     fn every_for_earliest(&self, input: &Input<'_>) -> Option<Every<'_>> {
-        let longest = self.parts.longest;
         match self.parts.kind {
             MatchKind::Standard => Some(done(self.every())),
-            _ if input.get_earliest() => {
-                self.parts.every.get().map(|prepared| Every { prepared, longest, first: None })
-            }
+            _ if input.get_earliest() => self.parts.every.get().map(|prepared| self.every_by(prepared)),
             _ => None,
         }
     }
@@ -405,9 +411,14 @@ impl AhoCorasick {
     /// The same by any kind.
     #[inline]
     fn built(&self) -> Result<Every<'_>, BuildError> {
-        let Parts { ignore_case, longest, ref pieces, ref every, .. } = *self.parts;
+        let Parts { ignore_case, ref pieces, ref every, .. } = *self.parts;
         let prepared = every.get_or_try(|| Prepared::overlapping(ignore_case, pieces))?;
-        Ok(Every { prepared, longest, first: None })
+        Ok(self.every_by(prepared))
+    }
+
+    #[inline]
+    fn every_by<'a>(&'a self, prepared: &'a Prepared) -> Every<'a> {
+        Every { prepared, pieces: &self.parts.pieces, longest: self.parts.longest, first: None }
     }
 
     /// Lists the first known matches from a place on, whatever follows the haystack, or if nothing does; in place of what
