@@ -155,11 +155,13 @@ impl AhoCorasick {
 
     /// All matches that do not overlap: first that of [`AhoCorasick::find`], and then the first after each match.
     ///
-    /// It allocates room for at most 1,024 matches, and none before the third one. By a leftmost kind with a pattern of
-    /// more than 1,024 bytes, it picks matches that lie close together from every occurrence. That may allocate 48 bytes
-    /// for each byte of the longest pattern, the room of [`AhoCorasick::find_overlapping_iter`], and the first time the
-    /// array for every occurrence. If memory for the bytes of the pattern or for the array is refused, it goes on without.
-    /// Earliest matches are then always picked from every occurrence, if there is memory for the array.
+    /// For an input without flags, if no pattern has more than 1,024 bytes, it allocates room for at most 1,024
+    /// matches, and none before the third one. With a longer pattern it may pick matches from every occurrence: by the
+    /// standard kind always, if that pattern has standard matches; by a leftmost kind where they lie close together,
+    /// and earliest matches unless many patterns can end at one offset. This may allocate the room of
+    /// [`AhoCorasick::find_overlapping_iter`]; by a leftmost kind also the array for every occurrence, the first time;
+    /// and for matches that are not earliest ones, 48 bytes for each byte of the longest pattern. If memory for the
+    /// array or for these bytes is refused, it searches anew after each match.
     ///
     /// # Panics
     ///
@@ -247,9 +249,10 @@ impl AhoCorasick {
     /// Every occurrence, also overlapping and nested ones: ordered by ends, at one end the longest first, and of equal
     /// patterns the first in the list.
     ///
-    /// It allocates room for at most 256 matches, and none before the first one; or for more, if more occur within twice
-    /// the length of the longest pattern. The first search for every occurrence builds a second array, if the builder
-    /// did not. It is about as large as the first one, and takes as much time.
+    /// It allocates room for at most 256 matches, and none before the first one. If more occur within twice the length
+    /// of the longest pattern, it is room for at most 4,096, or for those that end at one offset if these are more. The
+    /// first search for every occurrence builds a second array, if the builder did not. It is about as large as the
+    /// first one, and takes as much time.
     ///
     /// # Panics
     ///

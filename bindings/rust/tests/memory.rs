@@ -54,7 +54,7 @@ fn refusing<T>(most: usize, call: impl FnOnce() -> T) -> T {
 }
 
 /// The matches in a text after the first ones, which build the array for every occurrence.
-fn rest_of<'h>(searcher: &AhoCorasick, text: &'h str, given: usize, most: usize) -> Vec<Match> {
+fn rest_of(searcher: &AhoCorasick, text: &str, given: usize, most: usize) -> Vec<Match> {
     let (mut found, mut rest) = (searcher.find_iter(text), Vec::with_capacity(text.len()));
     assert_eq!(found.by_ref().take(given).count(), given);
     refusing(most, || rest.extend(found));
