@@ -1,14 +1,15 @@
 //! Anchored matches of a leftmost kind: each begins where the one before ends.
 use crate::{AhoCorasick, FindIter, Input, Match, Span};
 
-/// How many bytes are searched at once, unless the longest pattern has a quarter of them: at most.
+/// The most bytes in a part, unless four times the longest pattern is more.
 const PART: usize = 4096;
 
 /// The matches of an anchored input.
 ///
 /// They are the leftmost matches, up to the first one that begins later. Those are searched for in parts of the input.
 /// A match in a part is one of the whole input if the longest pattern fits between its start and the end of the part.
-/// Parts become longer than that pattern, so the time is linear in the haystack, however long patterns are.
+/// Parts become longer than that pattern. So all together have at most some times the bytes of the input, however long
+/// patterns are.
 #[derive(Clone, Debug)]
 pub struct Adjacent<'a, 'h> {
     searcher: &'a AhoCorasick,
@@ -35,7 +36,7 @@ impl<'a, 'h> Adjacent<'a, 'h> {
                     return Some(found);
                 }
                 Some(found) if self.is_known(found) => self.is_over = true,
-                // (at the start of a part each match is known)
+                // (so none begins there: a match at the start of a part is always known)
                 _ if self.part.start == self.rest.start => self.is_over = true,
                 _ => self.turn(),
             }

@@ -95,6 +95,8 @@ impl AhoCorasickBuilder {
         if is_standard && !is_paged {
             every.get_or_try(|| Prepared::overlapping(self.ignore_case, &pieces))?;
         }
+        // (only where matches may be picked from every occurrence)
+        let most_at_one_end = if is_standard || is_paged { 0 } else { pieces.most_at_one_end(self.ignore_case)? };
         if !is_standard && is_paged {
             pieces.drop_bytes();
         }
@@ -108,6 +110,7 @@ impl AhoCorasickBuilder {
             longest: pieces.longest,
             leftmost,
             is_paged,
+            most_at_one_end,
             pieces,
             every,
         }))

@@ -149,8 +149,9 @@ impl<'a, 'h> Pages<'a, 'h> {
 /// together, they are picked from every occurrence instead.
 ///
 /// If the matches of a page lie close together, those after it are picked, until one is far from the one before. Then
-/// pages begin again, with little room: so few matches are searched for before they are picked again, and the time is
-/// linear in the haystack, whatever the distances of its matches are.
+/// pages begin again, with little room: so few matches are searched for before they are picked again. The time is at
+/// most proportional to the bytes of the haystack times the most patterns that can end at one offset, whatever the
+/// distances of its matches are.
 #[derive(Clone)]
 struct Long<'a, 'h> {
     searcher: &'a AhoCorasick,

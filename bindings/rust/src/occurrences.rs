@@ -1,7 +1,9 @@
 //! Every occurrence, one after another.
+use crate::declared::{MATCH_STATE, START_STATE};
 use crate::leftmost::Leftmost;
 use crate::library::{Prepared, Reached, FEW};
-use crate::{Input, Match, Span};
+use crate::pieces::Pieces;
+use crate::{Input, Match, PatternID, Span};
 use alloc::vec::Vec;
 use core::fmt;
 use core::iter::FusedIterator;
@@ -11,13 +13,21 @@ const FIRST_PART: usize = 256;
 const FIRST_ANCHORED_PART: usize = 16;
 const PART: usize = 1 << 16;
 
-/// How many occurrences a page has at most, after the first one.
+/// How many occurrences a page has at most, after the first one, unless more lie within twice the longest pattern.
 const MANY: usize = 256;
 
-/// Where every occurrence is searched for: an array for that, and the length of the longest pattern.
+/// How many occurrences a page has at most, with any pattern. Where more lie within twice the longest pattern, the
+/// search by states also takes less time.
+const MOST: usize = 4096;
+
+/// The least gap between occurrences, in bytes, after which the search by states ends.
+const GAP: usize = 4096;
+
+/// Where every occurrence is searched for: an array for that, the patterns, and the length of the longest one.
 #[derive(Clone, Copy)]
 pub struct Every<'a> {
     pub prepared: &'a Prepared,
+    pub pieces: &'a Pieces,
     pub longest: usize,
     /// What finds the occurrence that ends first, if that is faster.
     pub first: Option<&'a Leftmost>,
@@ -86,6 +96,11 @@ impl OverlappingState {
 /// The haystack is searched in parts. To find the occurrences that end in a part, the search begins the length of the
 /// longest pattern before it, so that occurrences from earlier parts lie whole in the searched bytes. Parts become
 /// longer than that pattern, so the time is linear in the haystack and its occurrences, however long patterns are.
+///
+/// That needs room for the occurrences within twice the length of the pattern. If these are too many, or the room is
+/// refused, the search goes on by states, with two calls for each offset at which a pattern ends. This needs room for
+/// the occurrences that end there. Parts begin again after a gap at least as long as the pattern: so their first bytes,
+/// which are read again, are no more than the bytes of the gap.
 #[derive(Clone)]
 struct Walk {
     span: Span,
@@ -99,6 +114,10 @@ struct Walk {
     page: Vec<Match>,
     /// Those of the page up to here were given, or end in an earlier part.
     given: usize,
+    /// The state after the bytes up to `reached`, if the search goes on by states.
+    state: Option<u32>,
+    /// Room for the numbers of the patterns that end in a state.
+    numbers: Vec<usize>,
 }
 
 impl Walk {
@@ -109,7 +128,8 @@ impl Walk {
             span.end = span.end.min(span.start.saturating_add(every.longest));
         }
         let part = if is_anchored { FIRST_ANCHORED_PART } else { FIRST_PART };
-        Walk { span, is_anchored, reached: span.start, part, most: FEW, page: Vec::new(), given: 0 }
+        let (page, numbers) = (Vec::new(), Vec::new());
+        Walk { span, is_anchored, reached: span.start, part, most: FEW, page, given: 0, state: None, numbers }
     }
 
     #[inline]
@@ -119,7 +139,10 @@ impl Walk {
                 if self.reached == self.span.end {
                     return None;
                 }
-                self.turn(every, haystack);
+                match self.state {
+                    Some(state) => self.step(every, haystack, state),
+                    None => self.turn(every, haystack),
+                }
             }
             let found = self.page[self.given];
             self.given += 1;
@@ -140,7 +163,10 @@ impl Walk {
         }
         let start = (self.reached + 1).saturating_sub(every.longest.max(1)).max(self.span.start);
         let end = self.reached.saturating_add(self.part).min(self.span.end);
-        let page = self.fill(every, haystack, Span { start, end });
+        let page = match self.fill(every, haystack, Span { start, end }) {
+            Some(page) => page,
+            None => return self.begin_states(every, haystack, start),
+        };
         put_longest_first(&mut self.page);
         self.given = self.page.partition_point(|it| it.end() <= self.reached);
         // (more than the page has may end where its last one does)
@@ -153,16 +179,55 @@ impl Walk {
     }
 
     /// Finds a page of occurrences in a span. It grows until it has all, or goes farther beyond `reached` than the span
-    /// begins before it, so that not much is read again.
-    fn fill(&mut self, every: Every<'_>, haystack: &[u8], span: Span) -> Reached {
+    /// begins before it, so that not much is read again. There is none if that takes too much room.
+    fn fill(&mut self, every: Every<'_>, haystack: &[u8], span: Span) -> Option<Reached> {
         let least = 2 * self.reached - span.start;
-        loop {
+        while self.has_room() {
             let page = every.prepared.overlapping_page(haystack, span, self.most, &mut self.page);
             if page.is_last || least + 1 < page.next {
-                return page;
+                return Some(page);
             }
             self.most = MANY.max(2 * self.most);
         }
+        None
+    }
+
+    /// Whether the page has its room, or gets it. (Little room is allocated once an occurrence is found.)
+    fn has_room(&mut self) -> bool {
+        self.page.clear();
+        self.most <= FEW || self.most <= MOST && self.page.try_reserve_exact(self.most).is_ok()
+    }
+
+    /// Goes on by states, from the one after the bytes up to `reached`, of which no occurrence that ends later begins
+    /// before the start.
+    fn begin_states(&mut self, every: Every<'_>, haystack: &[u8], start: usize) {
+        let (mut state, mut at) = (START_STATE, start);
+        while at < self.reached {
+            (state, at) = every.prepared.walk(state, haystack, Span { start: at, end: self.reached });
+        }
+        (self.state, self.page, self.given) = (Some(state), Vec::new(), 0);
+    }
+
+    /// Finds the occurrences that end at the next offset at which a pattern ends. After a gap parts begin again.
+    fn step(&mut self, every: Every<'_>, haystack: &[u8], state: u32) {
+        let end = self.reached.saturating_add(every.longest.max(GAP)).min(self.span.end);
+        let (state, end) = every.prepared.walk(state, haystack, Span { start: self.reached, end });
+        self.state = Some(state).filter(|it| *it >= MATCH_STATE);
+        (self.reached, self.given, self.most) = (end, 0, MANY);
+        self.list(every, state, end);
+        put_longest_first(&mut self.page);
+    }
+
+    /// Lists the occurrences that end where a state is reached.
+    fn list(&mut self, every: Every<'_>, state: u32, end: usize) {
+        let count = every.prepared.patterns_at(state, &mut self.numbers);
+        if self.numbers.len() < count {
+            self.numbers.resize(count, 0);
+            every.prepared.patterns_at(state, &mut self.numbers);
+        }
+        let numbers = self.numbers[..count].iter().map(|it| PatternID::of(*it));
+        self.page.clear();
+        self.page.extend(numbers.map(|it| Match::new(it, Span { start: end - every.pieces.len_of(it.as_u32()), end })));
     }
 }
 

@@ -17,6 +17,10 @@ use core::fmt;
 /// For so few patterns the search for the first occurrence is faster than the one for every occurrence.
 const FEW_PATTERNS: usize = 3;
 
+/// For how many bytes an occurrence counts, where every occurrence is listed: it takes about as long to list it as to
+/// look up so many bytes.
+const OCCURRENCE: usize = 4;
+
 /// Searches for any number of patterns.
 ///
 /// Threads may share it. A clone is the same search, and takes no memory. The calls whose names begin with `try_` return
@@ -37,6 +41,8 @@ pub(crate) struct Parts {
     pub leftmost: Leftmost,
     /// Whether iterations without flags list pages of matches, since no pattern is long.
     pub is_paged: bool,
+    /// The most patterns that can end at one offset, by a leftmost kind with a long pattern.
+    pub most_at_one_end: usize,
     /// The patterns, of which `every` is built; or their lengths alone, if it is never built.
     pub pieces: Pieces,
     /// The array for every occurrence. By a leftmost kind matches of long patterns may be picked from them.
@@ -149,11 +155,13 @@ impl AhoCorasick {
 
     /// All matches that do not overlap: first that of [`AhoCorasick::find`], and then the first after each match.
     ///
-    /// It allocates room for at most 1,024 matches, and none before the third one. By a leftmost kind with a pattern of
-    /// more than 1,024 bytes, it picks matches that lie close together from every occurrence. That may allocate 48 bytes
-    /// for each byte of the longest pattern, the room of [`AhoCorasick::find_overlapping_iter`], and the first time the
-    /// array for every occurrence. If memory for the bytes of the pattern or for the array is refused, it goes on without.
-    /// Earliest matches are then always picked from every occurrence, if there is memory for the array.
+    /// For an input without flags, if no pattern has more than 1,024 bytes, it allocates room for at most 1,024
+    /// matches, and none before the third one. With a longer pattern it may pick matches from every occurrence: by the
+    /// standard kind always, if that pattern has standard matches; by a leftmost kind where they lie close together,
+    /// and earliest matches unless many patterns can end at one offset. This may allocate the room of
+    /// [`AhoCorasick::find_overlapping_iter`]; by a leftmost kind also the array for every occurrence, the first time;
+    /// and for matches that are not earliest ones, 48 bytes for each byte of the longest pattern. If memory for the
+    /// array or for these bytes is refused, it searches anew after each match.
     ///
     /// # Panics
     ///
@@ -214,20 +222,23 @@ impl AhoCorasick {
         }
     }
 
-    /// The earliest matches where the kind is a leftmost one. If a pattern is long, they are picked from every occurrence,
-    /// unless the array for that can't be built.
+    /// The earliest matches where the kind is a leftmost one. If a pattern is long, they are picked from every
+    /// occurrence, unless so many patterns can end at one offset that this takes longer, or the array can't be built.
     fn earliest_matches<'a, 'h>(&'a self, input: Input<'h>) -> FindIter<'a, 'h> {
-        let every = if self.parts.is_paged { None } else { self.built().ok() };
+        let may_pick = !self.parts.is_paged && self.close_len(1) > 0;
+        let every = if may_pick { self.built().ok() } else { None };
         match every.filter(|_| !input.get_anchored().is_anchored()) {
             Some(every) => FindIter::picked(FindOverlappingIter::new(every, &input)),
             None => FindIter::one_by_one(self, input),
         }
     }
 
-    /// In how many bytes so many matches lie so close together that it takes less to pick them from every occurrence, of
-    /// which each byte may end one for each pattern, than to search anew after each match.
+    /// In how many bytes so many matches lie so close together that it takes less to pick them from every occurrence
+    /// than to search anew after each match. The one looks up as many bytes as the longest pattern has, after each
+    /// match. The other lists as many occurrences for each byte as patterns can end at one offset.
     pub(crate) fn close_len(&self, count: usize) -> usize {
-        self.parts.longest.saturating_mul(count) / self.parts.patterns_len.max(1)
+        let Parts { longest, most_at_one_end, .. } = *self.parts;
+        longest.saturating_mul(count) / most_at_one_end.saturating_mul(OCCURRENCE).max(1)
     }
 
     /// The matches by a leftmost kind, picked from every occurrence, unless the array for that can't be built.
@@ -238,9 +249,10 @@ impl AhoCorasick {
     /// Every occurrence, also overlapping and nested ones: ordered by ends, at one end the longest first, and of equal
     /// patterns the first in the list.
     ///
-    /// It allocates room for at most 256 matches, and none before the first one; or for more, if more occur within twice
-    /// the length of the longest pattern. The first search for every occurrence builds a second array, if the builder
-    /// did not. It is about as large as the first one, and takes as much time.
+    /// It allocates room for at most 256 matches, and none before the first one. If more occur within twice the length
+    /// of the longest pattern, it is room for at most 4,096, or for those that end at one offset if these are more. The
+    /// first search for every occurrence builds a second array, if the builder did not. It is about as large as the
+    /// first one, and takes as much time.
     ///
     /// # Panics
     ///
@@ -383,12 +395,9 @@ impl AhoCorasick {
     /// The search for every occurrence, if the match that is searched for is the one that ends first, and if by a leftmost
     /// kind the array is built.
     fn every_for_earliest(&self, input: &Input<'_>) -> Option<Every<'_>> {
-        let longest = self.parts.longest;
         match self.parts.kind {
             MatchKind::Standard => Some(done(self.every())),
-            _ if input.get_earliest() => {
-                self.parts.every.get().map(|prepared| Every { prepared, longest, first: None })
-            }
+            _ if input.get_earliest() => self.parts.every.get().map(|prepared| self.every_by(prepared)),
             _ => None,
         }
     }
@@ -405,9 +414,14 @@ impl AhoCorasick {
     /// The same by any kind.
     #[inline]
     fn built(&self) -> Result<Every<'_>, BuildError> {
-        let Parts { ignore_case, longest, ref pieces, ref every, .. } = *self.parts;
+        let Parts { ignore_case, ref pieces, ref every, .. } = *self.parts;
         let prepared = every.get_or_try(|| Prepared::overlapping(ignore_case, pieces))?;
-        Ok(Every { prepared, longest, first: None })
+        Ok(self.every_by(prepared))
+    }
+
+    #[inline]
+    fn every_by<'a>(&'a self, prepared: &'a Prepared) -> Every<'a> {
+        Every { prepared, pieces: &self.parts.pieces, longest: self.parts.longest, first: None }
     }
 
     /// Lists the first known matches from a place on, whatever follows the haystack, or if nothing does; in place of what

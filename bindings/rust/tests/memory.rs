@@ -2,6 +2,7 @@
 use aho_corasick::{AhoCorasick, Input, Match, MatchKind};
 use std::alloc::{GlobalAlloc, Layout, System};
 use std::sync::atomic::{AtomicUsize, Ordering};
+use std::sync::Mutex;
 
 /// The system's memory. It refuses requests for more bytes than `MOST`, and notes in `LARGEST` the largest one.
 struct Counted;
@@ -40,6 +41,9 @@ unsafe impl GlobalAlloc for Counted {
 #[global_allocator]
 static MEMORY: Counted = Counted;
 
+/// Held by the test that runs.
+static ALONE: Mutex<()> = Mutex::new(());
+
 /// What a call answers if larger requests for memory than `most` are refused.
 fn refusing<T>(most: usize, call: impl FnOnce() -> T) -> T {
     LARGEST.store(0, Ordering::Relaxed);
@@ -50,7 +54,7 @@ fn refusing<T>(most: usize, call: impl FnOnce() -> T) -> T {
 }
 
 /// The matches in a text after the first ones, which build the array for every occurrence.
-fn rest_of<'h>(searcher: &AhoCorasick, text: &'h str, given: usize, most: usize) -> Vec<Match> {
+fn rest_of(searcher: &AhoCorasick, text: &str, given: usize, most: usize) -> Vec<Match> {
     let (mut found, mut rest) = (searcher.find_iter(text), Vec::with_capacity(text.len()));
     assert_eq!(found.by_ref().take(given).count(), given);
     refusing(most, || rest.extend(found));
@@ -59,6 +63,7 @@ fn rest_of<'h>(searcher: &AhoCorasick, text: &'h str, given: usize, most: usize)
 
 #[test]
 fn matches_of_long_patterns() {
+    let _alone = ALONE.lock();
     let longest = 10_000;
     let words = ["a".repeat(longest - 1) + "c", "b".to_string()];
     let searcher = AhoCorasick::builder().match_kind(MatchKind::LeftmostFirst).build(&words).unwrap();
@@ -78,4 +83,17 @@ fn matches_of_long_patterns() {
     // (refused before the first match is picked, and after it; pages of matches need less)
     assert_eq!(rest_of(&searcher, &text, 6, 1 << 15), wanted);
     assert_eq!(rest_of(&searcher, &text, 7, 24 * longest), wanted[1..]);
+}
+
+#[test]
+fn occurrences_within_a_long_pattern() {
+    let _alone = ALONE.lock();
+    let words: Vec<String> = (1..21).map(|it| "a".repeat(it)).chain(["a".repeat(5000) + "b"]).collect();
+    let (searcher, text) = (AhoCorasick::new(&words).unwrap(), "a".repeat(20_000));
+    let count = |most| refusing(most, || searcher.find_overlapping_iter(&text).count());
+    let wanted = (1..21).map(|it| text.len() + 1 - it).sum::<usize>();
+    assert_eq!(count(usize::MAX), wanted);
+    // (200,000 lie within twice the longest pattern)
+    assert!(LARGEST.load(Ordering::Relaxed) <= 100_000, "{}", LARGEST.load(Ordering::Relaxed));
+    assert_eq!(count(1 << 14), wanted);
 }
