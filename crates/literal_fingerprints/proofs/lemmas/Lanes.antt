@@ -183,10 +183,6 @@ pub lanes_from : {w : ℕ} → (lanes : List ℕ) (f : ℕ → ℕ) (m n : ℕ) 
     → AreLanes w lanes (λ k. f (n + k))
 lanes_from {w} lanes f m n same has = subst (λ j. AreLanes w lanes (λ k. f (j + k))) same has
 
--- the last 16 lanes of a vector of 32
-pub back_of_wide : (lanes : List ℕ) (f : ℕ → ℕ) → HasWide lanes f → HasBack lanes (λ k. f (16 + k))
-back_of_wide lanes f has = record { long = has.long; each = λ k below. has.each (16 + k) (omega arith) }
-
 module _ (js : List ℕ) (f : ℕ → ℕ) (lanes : HasLanes js f) (small : (k : ℕ) → k < 16 → f k < 16) where
   -- positions in a table of 16
   pub positions_fit : SwzOk w8 16 16 0 js

@@ -1,5 +1,5 @@
 -- Prefixes among sorted texts. For `prefixes`.
-use Rattle.std.proofs.Common.{◌≡◌, ◌≢◌, ◌∙◌, ◌+◌, ◌-◌, ◌<◌, ◌≤◌, ◌++◌, ◌∷◌, [], ℕ, Bool, List}
+use Rattle.std.proofs.Common.{◌≡◌, ◌≢◌, ◌∙◌, ◌+◌, ◌-◌, ◌<◌, ◌≤◌, ◌++◌, ◌∷◌, [], ℕ, List}
 use Rattle.std.proofs.Common.{None, Option, Some, ap, append-nil}
 use Rattle.std.proofs.Common.{MatchOption, append_assoc, arith, drop, false, get_or, inl, inr, length, min, refl}
 use Rattle.std.proofs.Common.{subst, suc, sym, true}
@@ -16,7 +16,8 @@ use Rattle.std.specs.List.{All, range_with_len}
 use Rattle.std.specs.List.Sorted.{IsPermutation, IsSortedBy}
 use Rattle.std.specs.Ordering.{is_lt, on, ordering_reverse, then_cmp}
 use Rattle.std.proofs.Common.{set, zero}
-use Rattle.std.proofs.lemmas.Cmp.{nat_cmp_total, nat_list_cmp_total, on_total, then_total}
+use Rattle.std.proofs.lemmas.Cmp.{nat_cmp_total, nat_list_cmp_total, on_total, then_total, tied_itself}
+use Rattle.std.proofs.lemmas.Map.Keys.{ge_from_not_lt}
 use Rattle.std.proofs.lemmas.List.{get_or-map, get_or-set_other, get_or-set_same, get_or_append_left, get_or_push}
 use Rattle.std.proofs.lemmas.List.{length-append, length-map}
 use Rattle.std.proofs.lemmas.List.Elements.{All-from_get_or, All-get_or, Contains-get_or}
@@ -216,20 +217,13 @@ module _ (all : List Numbered) (rises : IsSortedBy (λ x y. is_lt (in_order x y)
   order : IsStrictWeakOrder (λ (x y : Numbered). is_lt (in_order x y))
   order = ranks_by in_order_total (λ (n : Numbered). n)
 
-  itself : (x : Numbered) → is_lt (in_order x x) ≡ false
-  itself x = by (is_lt (in_order x x)) refl
-    where
-      by : (b : Bool) → is_lt (in_order x x) ≡ b → is_lt (in_order x x) ≡ false
-      by true less = order.one_way x x less
-      by false not = not
-
   -- none is less than one before it
   not_less_after : (j more k : ℕ) (d : Numbered) → k ≡ j + more → k < length all
       → is_lt (in_order (get_or all k d) (get_or all j d)) ≡ false
   not_less_after j zero k d is below =
       subst (λ n. is_lt (in_order (get_or all n d) (get_or all j d)) ≡ false)
       (let same : j ≡ k = omega (arith, is) in same)
-      (itself (get_or all j d))
+      (ap is_lt (tied_itself in_order_total (get_or all j d)))
   not_less_after j (suc more) k d is below =
       order.chain (get_or all k d) (get_or all (j + more) d) (get_or all j d)
       (subst (λ n. is_lt (in_order (get_or all n d) (get_or all (j + more) d)) ≡ false)
@@ -248,17 +242,6 @@ not_greater a b more not greater =
     let turned = nat_list_cmp_total.antisymm b a in
     let less : slice_cmp nat_cmp b a ≡ Less = turned ∙ ap ordering_reverse greater in
     false≢true (sym not ∙ ap (λ o. is_lt (ordering_then o more)) less)
-
-equal_words : (a : List ℕ) → slice_cmp nat_cmp a a ≡ Equal
-equal_words [] = refl
-equal_words (x ∷ a) =
-    ap (λ o. ordering_then o (slice_cmp nat_cmp a a)) (sym (nat_cmp_is x x Equal refl)) ∙ equal_words a
-
-not_below : (x y : ℕ) → is_lt (nat_cmp y x) ≡ false → x ≤ y
-not_below x y not = elim (cases_lt y x) [
-  | inl less ↦ absurd (false≢true (sym not ∙ ap is_lt (sym (nat_cmp_is y x Less less))))
-  | inr least ↦ omega (arith, least)
-]
 
 -- one of a list
 some_of : (all : List Numbered) (k : ℕ) → k < length all → Numbered
@@ -308,8 +291,8 @@ are_sorted texts given all words numbers moved rises = record {
       let equal : (get_or all k d).symbols.items ≡ (get_or all j d).symbols.items = sym second ∙ (sym same ∙ first) in
       let level : slice_cmp nat_cmp (get_or all k d).symbols.items (get_or all j d).symbols.items ≡ Equal =
       ap (λ (w : List ℕ). slice_cmp nat_cmp w (get_or all j d).symbols.items) equal
-      ∙ equal_words (get_or all j d).symbols.items in
-      let not = not_below (get_or all j d).number (get_or all k d).number
+      ∙ tied_itself nat_list_cmp_total (get_or all j d).symbols.items in
+      let not = ge_from_not_lt (get_or all k d).number (get_or all j d).number
       (ap (λ o. is_lt (ordering_then o (nat_cmp (get_or all k d).number (get_or all j d).number))) (sym level)
       ∙ not_less all rises j k d (omega (arith, before)) inside) in
       omega (arith, not, number_at all j d (omega (arith, inside, before)), number_at all k d inside);

@@ -7,14 +7,11 @@ use Rattle.std.proofs.lemmas.List.{get_or-map, get_or_past, length-map, length-r
 use Rattle.std.proofs.lemmas.List.{reverse-reverse}
 use Rattle.std.proofs.lemmas.List.Sums.{sum_by-cons}
 use Rattle.std.proofs.lemmas.Slice.Eq.{starts_is}
-use Rattle.std.specs.Global.{Global}
 use Rattle.std.specs.List.{starts_with}
-use Rattle.std.specs.declared.vec.Vec.{Vec}
 use Rattle.literal_base.specs.Occurs.{NoneIsEmpty, pattern_at}
 use Rattle.literal_search.specs.Inside.Classes.{symbols_in}
 use Rattle.literal_search.specs.Inside.Suffixes.{IsSuffix}
 use Rattle.literal_search.specs.SearchValue.{reversed}
-use Rattle.literal_search.proofs.lemmas.Built.{same_texts}
 
 -- the text of a reversed pattern is that of the pattern, reversed
 pub reverse_map : (f : ℕ → ℕ) (xs : List ℕ) → map f (reverse xs) ≡ reverse (map f xs)
@@ -64,18 +61,6 @@ map_reversed classes [] = refl
 map_reversed classes (bytes ∷ more) =
     ap (λ l. l ∷ map (symbols_in classes) (reversed more)) (reverse_map (λ byte. get_or classes byte 0) bytes)
     ∙ ap (λ l. reverse (symbols_in classes bytes) ∷ l) (map_reversed classes more)
-
-module _ (lent backward patterns : List (Vec ℕ Global)) (same : lent ≡ backward)
-    (copies : map (λ (pattern : Vec ℕ Global). pattern.items) backward
-    ≡ reversed (map (λ (pattern : Vec ℕ Global). pattern.items) patterns))
-  where
-    -- copies that were lent have the texts of the reversed patterns
-    pub texts_lent : (classes : List ℕ) → map (λ (pattern : Vec ℕ Global). symbols_in classes pattern.items) lent
-        ≡ reversed (map (symbols_in classes) (map (λ (pattern : Vec ℕ Global). pattern.items) patterns))
-    texts_lent classes = grind (arith, map_reversed, same_texts)
-
-    pub count_lent : length lent ≡ length (map (λ (pattern : Vec ℕ Global). pattern.items) patterns)
-    count_lent = grind (arith, back_count, length-map)
 
 -- what is a prefix of a text is, reversed, a suffix of the reversed text
 module _ (texts : List (List ℕ)) (text : List ℕ) (i : ℕ) where

@@ -22,7 +22,7 @@ use Rattle.literal_search.specs.declared.sought.Sought.TheVariants.{Any, Words}
 use Rattle.literal_search.specs.declared.stream.SoFar.{SoFar}
 use Rattle.literal_search.specs.declared.stream.SoFar.TheVariants.{Found, NoneBefore}
 use Rattle.literal_search.proofs.lemmas.Longest.{longest_is}
-use Rattle.literal_search.proofs.lemmas.Streams.{GoesFrom, GoesOverAll, occurs_prefix}
+use Rattle.literal_search.proofs.lemmas.Streams.{GoesFrom, occurs_prefix}
 
 -- what is searched for goes from an offset on
 goes_later : (s : Sought) (text : List ℕ) (from to i p : ℕ) → to ≤ p → Begins s text from i p → Begins s text to i p
@@ -82,9 +82,6 @@ pub goes_some : (s : Sought) (text : List ℕ) (from : ℕ) (found : MatchValue)
     → IsFirst s text from (Some found) → AreMatches s text found.end more → AreMatches s text from (found ∷ more)
 goes_some (Any search) text from found more first list = (first, list)
 goes_some (Words words) text from found more first list = (first, list)
-
-pub goes_over_all : (s : Sought) → GoesOverAll (IsFirst s) (AreMatches s)
-goes_over_all s = record { none = goes_none s; some = goes_some s }
 
 -- where nothing begins before the end, there is nothing
 pub nothing_last : (s : Sought) (text : List ℕ) (from : ℕ) → NoneIsEmpty (search_of s).query.patterns
@@ -343,12 +340,6 @@ nothing_follows (Any search) text more from empty nothing i p o =
 nothing_follows (Words words) text more from empty nothing i p o =
     absurd (nothing i p (subst (λ (t : List ℕ). Begins (Words words) t from i p)
     (ap (λ l. text ++ l) empty ∙ append-nil text) o))
-
--- and what is found there is found
-pub found_follows : (s : Sought) (text more : List ℕ) (from : ℕ) (answer : Option MatchValue) → more ≡ []
-    → IsFirst s text from answer → IsFirst s (text ++ more) from answer
-found_follows s text more from answer empty first =
-    subst (λ (t : List ℕ). IsFirst s t from answer) (sym (ap (λ l. text ++ l) empty ∙ append-nil text)) first
 
 -- where nothing begins before a later offset, the matches from there on are those from an earlier one on
 pub matches_later : (s : Sought) (text : List ℕ) (from to : ℕ) (matches : List MatchValue) → from ≤ to
