@@ -36,7 +36,7 @@ pub fn redact_stream<R: Read, W: Write>(
 ) -> Result<(), ReplaceStreamError>
     ensures written { OnOk result (Redacts search.now (R.remaining reader.old) (R.remaining reader.new)
         (W.contents writer.old) (W.contents writer.new)) }
-    ensures error { IfErr result (StopsRedacting (R.remaining reader.old) (R.remaining reader.new)
+    ensures error { IfErr result (StopsRedacting search.now (R.remaining reader.old) (R.remaining reader.new)
         (W.contents writer.old) (W.contents writer.new)) }
 {
     search.replace_stream_with(

@@ -26,7 +26,7 @@ use Rattle.literal_search.proofs.lemmas.Rewritten.{part_longer}
 use Rattle.literal_search.proofs.lemmas.Walk.{slice_halves}
 
 -- a list begins at an offset or later
-abbrev BeginsFrom : ℕ → List MatchValue → Type 0
+abbrev pub BeginsFrom : ℕ → List MatchValue → Type 0
 BeginsFrom at [] = Unit {0}
 BeginsFrom at (found ∷ more) = at ≤ found.start
 
@@ -41,6 +41,16 @@ replaced_later bytes_for text from to (found ∷ more) later within begins =
     sym (ap (λ l. l ++ rest) (slice_halves text from to found.start later begins)
     ∙ append_assoc (slice_range text from to) (slice_range text to found.start) rest)
 
+-- A text is written from one offset to another, with what a function gives for each match. Whatever follows: this,
+-- followed by the rest with its matches replaced, is the whole with its matches replaced
+pub record AreWritten (bytes_for : MatchValue → List ℕ) (text : List ℕ) (at : ℕ) (held written : Option (List ℕ))
+    (from : ℕ) (matches : List MatchValue) : Type 0 where
+  pub out : List ℕ
+  pub appended : Appends held written out
+  pub is_replaced : (more : List ℕ) (behind : List MatchValue) → BeginsFrom at behind
+      → out ++ replaced_by bytes_for (text ++ more) at behind
+      ≡ replaced_by bytes_for (text ++ more) from (matches ++ behind)
+
 module _ {F W : Type 0} (contents : W → Option (List ℕ))
     (step : F → MatchValue → Bor (List ℕ) → MutBor W → Result ⊤ Error → MutBor W → F → Type 0)
     (bytes_for : MatchValue → List ℕ) (holds : F → Type 0) (text : List ℕ)
@@ -51,16 +61,10 @@ module _ {F W : Type 0} (contents : W → Option (List ℕ))
     (at : ℕ) (written : Option (List ℕ))
   where
     -- what the calls wrote
-    record AreWritten (first : RewritingValue F) (matches : List MatchValue) : Type 0 where
-      out : List ℕ
-      appended : Appends first.written written out
-      is_replaced : (more : List ℕ) (behind : List MatchValue) → BeginsFrom at behind
-          → out ++ replaced_by bytes_for (text ++ more) at behind
-          ≡ replaced_by bytes_for (text ++ more) first.at (matches ++ behind)
-
     are_written : (first : RewritingValue F) (matches : List MatchValue) (last : RewritingValue F) → holds first.replace
         → FoldsTo (RewritesMatch contents step text) first matches last → last.at ≤ at → at ≤ length text
-        → Appends last.written written (slice_range text last.at at) → AreWritten first matches
+        → Appends last.written written (slice_range text last.at at)
+        → AreWritten bytes_for text at first.written written first.at matches
     are_written first [] last held stays upto inside rest =
         let first_is : last ≡ first = sym stays in
         let (upto_first, rest_first) = subst
@@ -131,6 +135,20 @@ module _ {F W : Type 0} {contents : W → Option (List ℕ)}
           sym (append-nil out) ∙ (ap (λ l. out ++ l) (sym empty)
           ∙ (here ∙ ap (replaced_by bytes_for text 0) (append-nil matches)))
 
+  -- and after a failed read the known part of it
+  pub part_written : (part : RewritesPartOf contents step AreMatches reach replace unread left held written)
+      → (bytes_for : MatchValue → List ℕ) → (holds : F → Type 0) → holds replace
+      → ((f : F) (found : MatchValue) (bytes : Bor (List ℕ)) (before behind : MutBor W) (next : F) → holds f
+      → found.start < found.end → found.end ≤ length part.text
+      → bytes.now ≡ slice_range part.text found.start found.end
+      → step f found bytes before (Ok tt) behind next
+      → holds next × Appends (contents before.now) (contents behind.now) (bytes_for found))
+      → AreWritten bytes_for part.text part.at held written 0 part.matches
+  part_written part bytes_for holds holds_first writes =
+      let done = part.are_rewritten in
+      are_written contents step bytes_for holds part.text writes part.at written _ part.matches
+          done.last holds_first done.calls done.upto done.inside done.rest
+
 module _ {F W : Type 0} (contents : W → Option (List ℕ))
     (step : F → MatchValue → Bor (List ℕ) → MutBor W → Result ⊤ Error → MutBor W → F → Type 0)
     (replacements : List (List ℕ)) (holds : F → Type 0)
@@ -167,11 +185,8 @@ module _ {F W : Type 0} (contents : W → Option (List ℕ))
     pub part_replaced : RewritesPartOf contents step AreMatches reach replace unread left held written
         → ReplacesPart AreMatches patterns reach replacements unread left held written
     part_replaced part =
-        let done = part.are_rewritten in
-        let made = are_written contents step replacement holds part.text
-        (λ f found bytes before behind next held _ _ _. writes f found bytes before behind next held) part.at written _
-        part.matches done.last
-        held_first done.calls done.upto done.inside done.rest in
+        let made = part_written part replacement holds held_first
+        (λ f found bytes before behind next held _ _ _. writes f found bytes before behind next held) in
         record {
           text = part.text;
           answer = made.out;
@@ -179,7 +194,7 @@ module _ {F W : Type 0} (contents : W → Option (List ℕ))
           reads = part.reads;
           far = part.far;
           is_replaced = record {
-            within = done.inside;
+            within = part.are_rewritten.inside;
             goes_on = λ more behind list. (
               part.matches ++ behind,
               part.come_first more behind list,
