@@ -1,9 +1,9 @@
 //! Two or three rare bytes of a pattern, and the scan by them.
 ghost use Rattle.std.specs.Prelude.{◌≡◌, ℕ, ◌+◌, ◌-◌, ◌*◌, ◌<◌, ◌≤◌, List, MatchOption};
-ghost use Rattle.std.specs.Prelude.{◌≢◌, length, max, min, slice_index, true};
+ghost use Rattle.std.specs.Prelude.{◌≢◌, bit_and, if◌then◌else◌, length, max, min, nat_lt, slice_index, true};
 ghost use Rattle.literal_base.specs.Occurs.{IsValidSpan, same_byte};
-ghost use Rattle.literal_fingerprints.specs.Inside.Hits.{AreBackHits, AreHits, AreWideHits, hit, pair_hit_at};
-ghost use Rattle.literal_fingerprints.specs.Inside.Lanes.{HasLanes, HasWide};
+ghost use Rattle.literal_fingerprints.specs.Inside.Hits.{hit, pair_hit};
+ghost use Rattle.literal_fingerprints.specs.Inside.Lanes.{HasBack, HasLanes, HasWide};
 ghost use Rattle.literal_fingerprints.specs.RarePairs.{IsPairOf, IsRare, NoPairBegins, PairMayStop, SecondMayStop};
 ghost use Rattle.literal_fingerprints.specs.RarePairs.{has_between, pair_in, second_offset};
 
@@ -23,14 +23,12 @@ const LAST: usize = 2;
 /// The size of a pair in bytes.
 pub const PAIR_BYTES: usize = 8;
 
-/// If the ranks of two bytes add up to less than this, they are so rare that a third byte does not help.
-const RARE: usize = 455;
-
 /// Fewer than this many bytes of a pattern are skipped.
 const MOST_SKIPPED: usize = 64;
 
-/// The largest distance between the two bytes of a pair.
-const APART: usize = 3;
+/// Bytes of a pattern are skipped if the ranks of the three behind them add up to less than those of the first three by
+/// more than this.
+const MUCH: usize = 24;
 
 /// A byte of a pattern. Before a byte of a haystack is compared with it, the bits of a mask are set in that byte. The
 /// mask has the bits in which the byte and its other case differ. It has none if case is kept, or if the byte is no
@@ -67,107 +65,6 @@ pub struct RarePair {
     pub apart: u8,
     /// The byte right after the first one, with the same mask, if the distance is at least two. 0 stands for any byte.
     pub between: u8,
-}
-
-/// Where 16 bytes of a haystack are each byte of a pair: lanes are 255 there, and 0 elsewhere.
-#[derive(Clone, Copy)]
-struct Compared {
-    first: u8x16,
-    between: u8x16,
-    second: u8x16,
-}
-
-impl Compared {
-    /// Before a span no byte is one of a pair.
-    #[inline(always)]
-    fn before_span() -> Compared
-        ensures { (pair : RarePair) (first_mask second_mask : ℕ) (haystack : List ℕ) (start : ℕ)
-            → AreHits result pair first_mask second_mask haystack start start }
-    {
-        let none = u8x16::splat(0);
-        Compared {
-            first: none,
-            between: none,
-            second: none,
-        }
-    }
-
-    /// Lanes that are not 0 where the bytes of a pair are: the second in the lane, and the first `apart` lanes before
-    /// it. The first may be in the 16 bytes before.
-    #[inline(always)]
-    fn pairs_after(self, before: Compared, by_three: bool, apart: usize) -> u8x16
-        requires near { apart ≤ 3 }
-        requires far { by_three ≡ true → 2 ≤ apart }
-        ensures { (pair : RarePair) (first_mask second_mask : ℕ) (haystack : List ℕ) (start at : ℕ)
-            → AreHits before pair first_mask second_mask haystack start at
-            → AreHits self pair first_mask second_mask haystack start (at + 16)
-            → HasLanes result (λ k. pair_hit_at pair first_mask second_mask by_three apart haystack start
-            (at + (16 - apart + k))) }
-    {
-        let ends = both(shifted(apart, before.first, self.first), self.second);
-        if by_three {
-            both(ends, shifted(apart - 1, before.between, self.between))
-        } else {
-            ends
-        }
-    }
-}
-
-/// The same for 32 bytes.
-#[derive(Clone, Copy)]
-struct WideCompared {
-    first: u8x32,
-    between: u8x32,
-    second: u8x32,
-}
-
-impl WideCompared {
-    /// 16 bytes twice.
-    #[inline(always)]
-    fn twice(half: Compared) -> WideCompared
-        ensures { (pair : RarePair) (first_mask second_mask : ℕ) (haystack : List ℕ) (start at : ℕ)
-            → AreHits half pair first_mask second_mask haystack start at
-            → AreBackHits result pair first_mask second_mask haystack start at }
-    {
-        WideCompared {
-            first: twice(half.first),
-            between: twice(half.between),
-            second: twice(half.second),
-        }
-    }
-
-    /// The last 16 bytes.
-    #[inline(always)]
-    fn back(self) -> Compared
-        ensures { (pair : RarePair) (first_mask second_mask : ℕ) (haystack : List ℕ) (start at : ℕ)
-            → AreBackHits self pair first_mask second_mask haystack start at
-            → AreHits result pair first_mask second_mask haystack start at }
-    {
-        Compared {
-            first: back_half(self.first),
-            between: back_half(self.between),
-            second: back_half(self.second),
-        }
-    }
-
-    /// Lanes that are not 0 where the bytes of a pair are, as [`Compared::pairs_after`] says.
-    #[inline(always)]
-    fn pairs_after(self, before: WideCompared, by_three: bool, apart: usize) -> u8x32
-        requires near { apart ≤ 3 }
-        requires far { by_three ≡ true → 2 ≤ apart }
-        ensures { (pair : RarePair) (first_mask second_mask : ℕ) (haystack : List ℕ) (start at : ℕ)
-            → AreBackHits before pair first_mask second_mask haystack start at
-            → AreWideHits self pair first_mask second_mask haystack start (at + 16)
-            → HasWide result (λ k. pair_hit_at pair first_mask second_mask by_three apart haystack start
-            (at + (16 - apart + k))) }
-    {
-        let ends = both_wide(shifted_wide(apart, before.first, self.first), self.second);
-        if by_three {
-            both_wide(ends, shifted_wide(apart - 1, before.between, self.between))
-        } else {
-            ends
-        }
-    }
 }
 
 impl RarePair {
@@ -294,28 +191,32 @@ impl RarePair {
         if span.end - span.start < LANES {
             return self.scan_rest(second_mask, behind, haystack, span.start, span, tally);
         }
-        let here = self.compare(first_mask, second_mask, load(haystack, span.start, tally));
-        let passed = zeros_before(here.pairs_after(Compared::before_span(), by_three, apart));
+        let here = load(haystack, span.start, tally);
+        let hits = self.pairs(first_mask, second_mask, by_three, apart, here, here);
+        let passed = zeros_before(without_first(apart, hits));
         if passed < LANES {
             return span.start + passed.saturating_sub(behind);
         }
-        let mut before = WideCompared::twice(here);
+        let mut before = twice(here);
         let mut at = span.start + LANES;
         let last = span.end.saturating_sub(WIDE);
         while at <= last {
-            let wide = self.compare_wide(first_mask, second_mask, load_wide(haystack, at, tally));
-            let stop = zeros_before_wide(wide.pairs_after(before, by_three, apart));
+            let here = load_wide(haystack, at, tally);
+            let hits = self.pairs_wide(first_mask, second_mask, by_three, apart, before, here);
+            let stop = zeros_before_wide(hits);
             if stop < WIDE {
                 return at + stop - behind;
             }
-            before = wide;
+            before = here;
             at += WIDE;
         }
         if span.end - at < LANES {
             return self.scan_rest(second_mask, behind, haystack, at, span, tally);
         }
-        let last = self.compare(first_mask, second_mask, load(haystack, at, tally));
-        let passed = zeros_before(last.pairs_after(before.back(), by_three, apart));
+        let here = load(haystack, at, tally);
+        let before = back_half(before);
+        let hits = self.pairs(first_mask, second_mask, by_three, apart, before, here);
+        let passed = zeros_before(hits);
         if passed < LANES {
             return at + passed - behind;
         }
@@ -358,61 +259,101 @@ impl RarePair {
         span.end
     }
 
-    /// Where 16 bytes of a haystack are each byte, with these masks.
+    /// Lanes that are 255 where 16 bytes of a haystack have the bytes of the pair, with these masks: the second in the
+    /// lane, and the first `apart` lanes before it, perhaps in the 16 bytes before.
     #[inline(always)]
-    fn compare(&self, first_mask: u8, second_mask: u8, bytes: u8x16) -> Compared
-        ensures { (haystack : List ℕ) (start at : ℕ) → start ≤ at → HasLanes bytes (λ k. slice_index haystack (at + k))
-            → AreHits result self.now first_mask second_mask haystack start (at + 16) }
+    fn pairs(
+        &self,
+        first_mask: u8,
+        second_mask: u8,
+        by_three: bool,
+        apart: usize,
+        before: u8x16,
+        here: u8x16,
+    ) -> u8x16
+        requires near { apart ≤ 3 }
+        requires far { by_three ≡ true → 2 ≤ apart }
+        ensures { (bytes : ℕ → ℕ) → HasLanes before bytes → HasLanes here (λ k. bytes (16 + k))
+            → HasLanes result (λ k. pair_hit self.now first_mask second_mask by_three apart
+            (λ j. bytes (16 - apart + k + j))) }
     {
-        Compared {
-            first: wanted(bytes, self.first.byte, first_mask),
-            between: wanted(bytes, self.between, first_mask),
-            second: wanted(bytes, self.second.byte, second_mask),
+        let first = wanted(shifted(apart, before, here), self.first.byte, first_mask);
+        let ends = both(first, wanted(here, self.second.byte, second_mask));
+        if by_three {
+            let between = shifted(apart - 1, before, here);
+            both(ends, wanted(between, self.between, first_mask))
+        } else {
+            ends
         }
     }
 
     /// The same for 32 bytes.
     #[inline(always)]
-    fn compare_wide(&self, first_mask: u8, second_mask: u8, bytes: u8x32) -> WideCompared
-        ensures { (haystack : List ℕ) (start at : ℕ) → start ≤ at → HasWide bytes (λ k. slice_index haystack (at + k))
-            → AreWideHits result self.now first_mask second_mask haystack start (at + 16) }
+    fn pairs_wide(
+        &self,
+        first_mask: u8,
+        second_mask: u8,
+        by_three: bool,
+        apart: usize,
+        before: u8x32,
+        here: u8x32,
+    ) -> u8x32
+        requires near { apart ≤ 3 }
+        requires far { by_three ≡ true → 2 ≤ apart }
+        ensures { (bytes : ℕ → ℕ) → HasBack before bytes → HasWide here (λ k. bytes (16 + k))
+            → HasWide result (λ k. pair_hit self.now first_mask second_mask by_three apart
+            (λ j. bytes (16 - apart + k + j))) }
     {
-        WideCompared {
-            first: wanted_wide(bytes, self.first.byte, first_mask),
-            between: wanted_wide(bytes, self.between, first_mask),
-            second: wanted_wide(bytes, self.second.byte, second_mask),
+        let first = wanted_wide(
+            shifted_wide(apart, before, here),
+            self.first.byte,
+            first_mask,
+        );
+        let ends = both_wide(first, wanted_wide(here, self.second.byte, second_mask));
+        if by_three {
+            let between = shifted_wide(apart - 1, before, here);
+            both_wide(ends, wanted_wide(between, self.between, first_mask))
+        } else {
+            ends
         }
     }
 }
 
-/// How many first bytes of a pattern are skipped when its pair is chosen: none if a pair of the first ones is rare,
-/// otherwise those before the rarest pair.
+/// The lanes after the first `lanes` ones, and 0 in those.
+#[inline(always)]
+fn without_first(lanes: usize, all: u8x16) -> u8x16
+    requires { lanes ≤ 3 }
+    ensures { HasLanes result (λ k. if nat_lt k lanes then 0 else bit_and (slice_index all k) 255) }
+{
+    both(all, shifted(lanes, u8x16::splat(0), u8x16::splat(255)))
+}
+
+/// How many first bytes of a pattern are skipped when its pair is chosen: none, or those before three bytes that are
+/// much rarer than the rarest of the first ones.
 pub fn bytes_before_pair(pattern: &[u8]) -> u8
     ensures { result < max (length pattern.now) 1 }
 {
-    if pattern.len() < 2 {
+    if pattern.len() < 3 {
         return 0;
     }
-    let (mut skipped, mut least) = (0, pair_rank(pattern, 0));
-    if least < RARE {
-        return 0;
-    }
-    for at in 1..(pattern.len() - 1).min(MOST_SKIPPED) {
-        let rank = pair_rank(pattern, at);
-        if rank < least {
+    let (mut skipped, mut least) = (0, rank_of_three(pattern, 0));
+    for at in 1..(pattern.len() - 2).min(MOST_SKIPPED) {
+        let rank = rank_of_three(pattern, at);
+        if rank + MUCH < least {
             (skipped, least) = (at as u8, rank);
         }
     }
     skipped
 }
 
-/// The sum of the ranks of the rarest two bytes after the skipped ones.
-fn pair_rank(pattern: &[u8], skipped: usize) -> usize
-    requires { skipped < length pattern.now }
+/// The sum of the ranks of the rarest three bytes after the skipped ones.
+fn rank_of_three(pattern: &[u8], skipped: usize) -> usize
+    requires { skipped + 3 ≤ length pattern.now }
+    ensures { result ≤ 768 }
 {
     let rest = &pattern[skipped..];
-    let (first, second) = rarest_two(rest);
-    rank_at(rest, first) + rank_at(rest, second)
+    let (first, second) = rarest_three(rest);
+    rank_at(rest, first) + rank_at(rest, first + 1) + rank_at(rest, second)
 }
 
 /// The offsets of the first and the last of two or three rare bytes of a pattern. They are equal in a pattern of one
@@ -424,11 +365,11 @@ fn rarest_places(pattern: &[u8]) -> (usize, usize)
     ensures near { result.1 ≤ result.0 + 3 }
     ensures inside { result.1 < length pattern.now }
 {
-    let (first, second) = rarest_two(pattern);
-    if pattern.len() < 3 || rank_at(pattern, first) + rank_at(pattern, second) < RARE {
-        return (first, second);
+    match pattern.len() {
+        1 => (0, 0),
+        2 => (0, 1),
+        _ => rarest_three(pattern),
     }
-    rarest_three(pattern)
 }
 
 /// The offsets of the first and the last of three rare bytes of a pattern: two neighbours, and one of the two bytes
@@ -467,29 +408,8 @@ fn rarer_behind(pattern: &[u8], at: usize) -> usize
     }
 }
 
-/// The offsets of two rare bytes of a pattern, in order. They are equal in a pattern of one byte.
-fn rarest_two(pattern: &[u8]) -> (usize, usize)
-    requires { 0 < length pattern.now }
-    ensures first { result.0 ≤ 2 }
-    ensures ordered { result.0 ≤ result.1 }
-    ensures near { result.1 ≤ result.0 + 3 }
-    ensures inside { result.1 < length pattern.now }
-{
-    let mut rarest = (0, 0);
-    let mut least = usize::MAX;
-    for second in 1..pattern.len().min(LAST + APART + 1) {
-        let first = rarest_before(pattern, second);
-        let rank = rank_at(pattern, first) + rank_at(pattern, second);
-        if rank < least {
-            rarest = (first, second);
-            least = rank;
-        }
-    }
-    rarest
-}
-
-/// The byte right after the first of the two, if it is compared too: if the two alone are not rare, and the mask of the
-/// first fits it. Otherwise 0.
+/// The byte right after the first of the two, if it is compared too: if it lies between them, and the mask of the first
+/// fits it. Otherwise 0.
 fn between_byte(ignore_case: bool, pattern: &[u8], first: usize, second: usize, mask: u8) -> u8
     requires ordered { first ≤ second }
     requires inside { second < length pattern.now }
@@ -497,7 +417,7 @@ fn between_byte(ignore_case: bool, pattern: &[u8], first: usize, second: usize, 
         → same_byte ignore_case byte (slice_index pattern.now (first + 1)) ≡ true
         → IsRare (record { byte = result; mask = mask }) byte }
 {
-    if second < first + 2 || rank_at(pattern, first) + rank_at(pattern, second) < RARE {
+    if second < first + 2 {
         return 0;
     }
     let between = RareByte::new(ignore_case, pattern[first + 1]);
@@ -506,24 +426,6 @@ fn between_byte(ignore_case: bool, pattern: &[u8], first: usize, second: usize, 
     } else {
         0
     }
-}
-
-/// The offset of the rarest of the first three bytes that are at most three bytes before an offset.
-fn rarest_before(pattern: &[u8], place: usize) -> usize
-    requires some { 0 < place }
-    requires short { place ≤ 5 }
-    requires inside { place ≤ length pattern.now }
-    ensures first { result ≤ 2 }
-    ensures before { result < place }
-    ensures near { place ≤ result + 3 }
-{
-    let mut rarest = (place - 1).min(LAST);
-    for at in place.saturating_sub(APART)..rarest {
-        if rank_at(pattern, at) < rank_at(pattern, rarest) {
-            rarest = at;
-        }
-    }
-    rarest
 }
 
 /// How common a byte of the pattern is: its rank, or 256 for the byte 0, which is more common than all others where it

@@ -1,6 +1,6 @@
 -- Places at which a haystack has no pair of bytes.
-use Rattle.std.proofs.Common.{◌≡◌, ◌≢◌, ℕ, ◌+◌, ◌-◌, ◌<◌, ◌≤◌, ◌∙◌, List, ap, arith, bit_and, bit_or, cond}
-use Rattle.std.proofs.Common.{[], Bool, eqb, false, get_or, inl, inr, min, refl, subst, sym, true}
+use Rattle.std.proofs.Common.{◌≡◌, ◌≢◌, ℕ, ◌+◌, ◌-◌, ◌%◌, ◌<◌, ◌≤◌, ◌∙◌, List, ap, arith, bit_and, bit_or, cond}
+use Rattle.std.proofs.Common.{[], Bool, eqb, false, get_or, inl, inr, ltb, min, refl, subst, sym, true}
 use Rattle.std.proofs.lemmas.Bool.{cases_lt, eq-eqb, eqb-true, le-ltb, lt-ltb}
 use Rattle.std.proofs.lemmas.Bool.Decides.{nat_tests}
 use Rattle.std.specs.Int.Bits.{and_zero_l, and_zero_r}
@@ -9,29 +9,10 @@ use Rattle.literal_base.specs.declared.search.Span.{Span}
 use Rattle.literal_fingerprints.specs.RarePairs.{HasBytes, HasPair, HasPairOfEarlier, NoPairBegins, first_offset}
 use Rattle.literal_fingerprints.specs.RarePairs.{has_between}
 use Rattle.literal_fingerprints.specs.declared.pair.RarePair.{RarePair}
-use Rattle.literal_fingerprints.specs.Inside.Hits.{hit, hit_at, pair_hit_at, with_between}
-use Rattle.literal_fingerprints.specs.Inside.Lanes.{AreLanes, HasBack, HasWide}
+use Rattle.literal_fingerprints.specs.Inside.Hits.{hit, pair_hit, with_between}
+use Rattle.literal_fingerprints.specs.Inside.Lanes.{AreLanes, HasBack, HasLanes, HasWide}
 use Rattle.literal_base.proofs.lemmas.Callers.{bytes_at}
 use Rattle.literal_fingerprints.proofs.lemmas.Sets.{meets}
-
-module _ (rare mask : ℕ) (haystack : List ℕ) (origin : ℕ) where
-  -- behind the first byte that is compared
-  pub hit_in : (k : ℕ) → origin ≤ k → hit_at rare mask haystack origin (k + 16) ≡ hit rare mask (get_or haystack k 0)
-  hit_in k after =
-      let same : k + 16 - 16 ≡ k = omega arith in
-      ap (λ t. cond t 0 (hit rare mask (get_or haystack (k + 16 - 16) 0))) (le-ltb (k + 16) (origin + 16) (omega arith))
-      ∙ ap (λ j. hit rare mask (get_or haystack j 0)) same
-
-  -- and before it
-  pub hit_before : (place : ℕ) → place < origin + 16 → hit_at rare mask haystack origin place ≡ 0
-  hit_before place before =
-      ap (λ t. cond t 0 (hit rare mask (get_or haystack (place - 16) 0))) (lt-ltb place (origin + 16) before)
-
-  pub hit_after : (place : ℕ) → hit_at rare mask haystack origin place ≢ 0 → origin + 16 ≤ place
-  hit_after place some = elim (cases_lt place (origin + 16)) [
-    | inl before ↦ absurd (some (hit_before place before))
-    | inr after ↦ omega arith
-  ]
 
 abbrev lane_of : Bool → ℕ
 lane_of t = cond t 255 0
@@ -48,38 +29,11 @@ is_hit rare mask byte some = eqb-true _ _ (set_by (eqb (bit_or byte mask) rare) 
 hits : (rare mask byte : ℕ) → bit_or byte mask ≡ rare → hit rare mask byte ≡ 255
 hits rare mask byte is = ap lane_of (eq-eqb _ _ is)
 
--- the same lanes, their places counted from the vector before
-pub later_hits : {w : ℕ} → (rare mask : ℕ) (haystack : List ℕ) (origin at : ℕ) (lanes : List ℕ)
-    → AreLanes w lanes (λ k. hit_at rare mask haystack origin (at + 16 + k))
-    → AreLanes w lanes (λ k. hit_at rare mask haystack origin (at + (16 + k)))
-later_hits rare mask haystack origin at lanes has = record {
-  long = has.long;
-  each = λ k below.
-      let same : at + 16 + k ≡ at + (16 + k) = omega arith in
-      has.each k below ∙ ap (hit_at rare mask haystack origin) same;
-}
-
--- the last 16 of 32 lanes, their places counted from 16 bytes later
-pub back_hits : (rare mask : ℕ) (haystack : List ℕ) (origin at : ℕ) (lanes : List ℕ)
-    → HasWide lanes (λ k. hit_at rare mask haystack origin (at + 16 + k))
-    → HasBack lanes (λ k. hit_at rare mask haystack origin (at + 32 + k))
-back_hits rare mask haystack origin at lanes has = record {
-  long = has.long;
-  each = λ k below.
-      let same : at + 16 + (16 + k) ≡ at + 32 + k = omega arith in
-      has.each (16 + k) (omega arith) ∙ ap (hit_at rare mask haystack origin) same;
-}
-
 some_of : (a b : ℕ) → bit_and a b ≢ 0 → (a ≢ 0) × (b ≢ 0)
 some_of a b some = (
   λ none. some (ap (λ x. bit_and x b) none ∙ and_zero_l b),
   λ none. some (ap (bit_and a) none ∙ and_zero_r a),
 )
-
--- hits of two bytes, and of the one between them, if there are three
-meets_between : (three : Bool) (a b c d : ℕ) → a ≡ c → b ≡ d → with_between three a b ≡ with_between three c d
-meets_between true a b c d one other = meets a b c d one other
-meets_between false a b c d one other = one
 
 ends_of : (three : Bool) (a b : ℕ) → with_between three a b ≢ 0 → a ≢ 0
 ends_of true a b some = (some_of a b some).0
@@ -105,84 +59,167 @@ far_by pair known = grind (arith, nat_tests)
 pub some_by : (pair : RarePair) → has_between pair ≡ true → pair.between ≢ 0
 some_by pair known none = grind (arith, nat_tests)
 
--- a pair of which the first byte is at a place
-abbrev pub pair_hit : RarePair → ℕ → ℕ → Bool → ℕ → List ℕ → ℕ → ℕ
-pair_hit pair first_mask second_mask three apart haystack k =
+-- the hits of a pair of which the first byte is at an offset of a haystack
+abbrev pub hit_from : RarePair → ℕ → ℕ → Bool → ℕ → List ℕ → ℕ → ℕ
+hit_from pair first_mask second_mask three apart haystack k =
     with_between three
     (bit_and (hit pair.first.byte first_mask (get_or haystack k 0))
     (hit pair.second.byte second_mask (get_or haystack (k + apart) 0)))
     (hit pair.between first_mask (get_or haystack (k + 1) 0))
 
-module _ (pair : RarePair) (first_mask second_mask : ℕ) (three : Bool) (apart : ℕ) (haystack : List ℕ) (origin : ℕ)
-  where
-    -- none is, of which the second byte lies before a place
+-- hits are 255 or 0
+all_bits : (three a b c : Bool)
+    → bit_and (with_between three (bit_and (lane_of a) (lane_of b)) (lane_of c)) 255
+    ≡ with_between three (bit_and (lane_of a) (lane_of b)) (lane_of c)
+all_bits true true true true = refl
+all_bits true true true false = refl
+all_bits true true false true = refl
+all_bits true true false false = refl
+all_bits true false true true = refl
+all_bits true false true false = refl
+all_bits true false false true = refl
+all_bits true false false false = refl
+all_bits false true true c = refl
+all_bits false true false c = refl
+all_bits false false true c = refl
+all_bits false false false c = refl
+
+-- lanes with equal values
+pub same_lanes : (n : ℕ) (lanes : List ℕ) (f g : ℕ → ℕ) → AreLanes n lanes f → ((k : ℕ) → k < n → f k ≡ g k)
+    → AreLanes n lanes g
+same_lanes n lanes f g has same = record { long = has.long; each = λ k below. has.each k below ∙ same k below }
+
+module _ (pair : RarePair) (first_mask second_mask : ℕ) where
+  -- the hits of a text are those of the haystack, if the compared bytes are the same
+  same_hit : (three : Bool) (apart : ℕ) (haystack : List ℕ) (text : ℕ → ℕ) (k : ℕ) → text 0 ≡ get_or haystack k 0
+      → text apart ≡ get_or haystack (k + apart) 0 → (three ≡ true → text 1 ≡ get_or haystack (k + 1) 0)
+      → pair_hit pair first_mask second_mask three apart text
+      ≡ hit_from pair first_mask second_mask three apart haystack k
+  same_hit true apart haystack text k first second between =
+      meets _ _ _ _
+      (meets _ _ _ _ (ap (hit pair.first.byte first_mask) first) (ap (hit pair.second.byte second_mask) second))
+      (ap (hit pair.between first_mask) (between refl))
+  same_hit false apart haystack text k first second between =
+      meets _ _ _ _ (ap (hit pair.first.byte first_mask) first) (ap (hit pair.second.byte second_mask) second)
+
+  module _ (three : Bool) (apart : ℕ) (haystack : List ℕ) (origin : ℕ) where
+    -- no pair is, of which the second byte lies before an offset
     abbrev pub NoneHit : ℕ → Type 0
     NoneHit at = (k : ℕ) → origin ≤ k → k + apart < at
-        → pair_hit pair first_mask second_mask three apart haystack k ≡ 0
+        → hit_from pair first_mask second_mask three apart haystack k ≡ 0
 
-    -- the lanes of the vector at a place
+    -- the lanes of the vector at an offset have the hits of the pairs of which the second byte is there
     abbrev pub PairLanes : ℕ → List ℕ → ℕ → Type 0
-    PairLanes width lanes at =
-        AreLanes width lanes (λ k. pair_hit_at pair first_mask second_mask three apart haystack origin
-        (at + (16 - apart + k)))
+    PairLanes width lanes at = (k : ℕ) → k < width → origin + apart ≤ at + k
+        → get_or lanes k 0 ≡ hit_from pair first_mask second_mask three apart haystack (at + k - apart)
 
-    in_haystack : (k place : ℕ) → origin ≤ k → place ≡ k + 16
-        → pair_hit_at pair first_mask second_mask three apart haystack origin place
-        ≡ pair_hit pair first_mask second_mask three apart haystack k
-    in_haystack k place after same =
-        let second : place + apart ≡ k + apart + 16 = omega arith in
-        let between : place + 1 ≡ k + 1 + 16 = omega arith in
-        meets_between three _ _ _ _
-        (meets _ _ _ _
-        (ap (hit_at pair.first.byte first_mask haystack origin) same
-        ∙ hit_in pair.first.byte first_mask haystack origin k after)
-        (ap (hit_at pair.second.byte second_mask haystack origin) second
-        ∙ hit_in pair.second.byte second_mask haystack origin (k + apart) (omega arith)))
-        (ap (hit_at pair.between first_mask haystack origin) between
-        ∙ hit_in pair.between first_mask haystack origin (k + 1) (omega arith))
+    pub lanes_at : apart ≤ 3 → (width at : ℕ) (lanes : List ℕ) → origin + 16 ≤ at
+        → AreLanes width lanes (λ k. pair_hit pair first_mask second_mask three apart
+        (λ j. get_or haystack (at + (16 - apart + k + j) - 16) 0)) → PairLanes width lanes at
+    lanes_at few width at lanes after has k below far =
+        let byte = λ (n : ℕ). get_or haystack n 0 in
+        let first : at + (16 - apart + k + 0) - 16 ≡ at + k - apart = omega (arith, few) in
+        let second : at + (16 - apart + k + apart) - 16 ≡ at + k - apart + apart = omega (arith, few) in
+        let between : at + (16 - apart + k + 1) - 16 ≡ at + k - apart + 1 = omega (arith, few) in
+        has.each k below
+        ∙ same_hit three apart haystack (λ j. byte (at + (16 - apart + k + j) - 16)) (at + k - apart) (ap byte first)
+        (ap byte second) (λ _. ap byte between)
 
-    module _ (few : apart ≤ 3) (width at : ℕ) (lanes : List ℕ) (has : PairLanes width lanes at) (after : origin ≤ at)
+    -- the bytes of the first vector, twice, without what is compared with the first of them
+    module _ (few : apart ≤ 3) (wide : three ≡ true → 2 ≤ apart) (lanes all : List ℕ)
+        (has : HasLanes lanes (λ k. pair_hit pair first_mask second_mask three apart
+        (λ j. get_or haystack (origin + (16 - apart + k + j) % 16) 0)))
+        (later : HasLanes all (λ k. cond (ltb k apart) 0 (bit_and (get_or lanes k 0) 255)))
       where
-        -- more places at which there is none
-        pub none_more : (n : ℕ) → n ≤ width → ((k : ℕ) → k < n → get_or lanes k 0 ≡ 0) → NoneHit at → NoneHit (at + n)
-        none_more n within zero old k later below = elim (cases_lt (k + apart) at) [
-          | inl before ↦ old k later before
-          | inr not ↦
-              let lane = k + apart - at in
-              let same : at + (16 - apart + lane) ≡ k + 16 = omega arith in
-              sym (in_haystack k (at + (16 - apart + lane)) later same)
-              ∙ (sym (has.each lane (omega arith)) ∙ zero lane (omega arith))
+        pub first_far : (n : ℕ) → n < 16 → get_or all n 0 ≢ 0 → apart ≤ n
+        first_far n below some = elim (cases_lt n apart) [
+          | inl before ↦ absurd (some (later.each n below
+              ∙ ap (λ t. cond t 0 (bit_and (get_or lanes n 0) 255)) (lt-ltb n apart before)))
+          | inr after ↦ after
         ]
 
-        module _ (n : ℕ) (below : n < width) (stops : get_or lanes n 0 ≢ 0) where
-          some : pair_hit_at pair first_mask second_mask three apart haystack origin (at + (16 - apart + n)) ≢ 0
-          some none = stops (has.each n below ∙ none)
+        pub first_lanes : PairLanes 16 all origin
+        first_lanes k below far =
+            let byte = λ (n : ℕ). get_or haystack n 0 in
+            let first : origin + (16 - apart + k + 0) % 16 ≡ origin + k - apart = omega (arith, few) in
+            let second : origin + (16 - apart + k + apart) % 16 ≡ origin + k - apart + apart = omega (arith, few) in
+            let same = same_hit three apart haystack
+            (λ j. get_or haystack (origin + (16 - apart + k + j) % 16) 0) (origin + k - apart) (ap byte first)
+            (ap byte second)
+            (λ is. ap byte (omega (arith, few, wide is))) in
+            later.each k below
+            ∙ (ap (λ t. cond t 0 (bit_and (get_or lanes k 0) 255)) (le-ltb k apart (omega arith))
+            ∙ (ap (λ n. bit_and n 255) (has.each k below ∙ same) ∙ all_bits three _ _ _))
 
-          -- the first byte is compared too
-          pub far : origin + apart ≤ at + n
-          far = omega (
-            arith,
-            hit_after pair.first.byte first_mask haystack origin (at + (16 - apart + n))
-                (some_of _ _ (ends_of three _ _ some)).0,
-          )
+    module _ (width at : ℕ) (lanes : List ℕ) (has : PairLanes width lanes at) (after : origin ≤ at) where
+      -- more offsets at which there is none
+      pub none_more : (n : ℕ) → n ≤ width → ((k : ℕ) → k < n → get_or lanes k 0 ≡ 0) → NoneHit at → NoneHit (at + n)
+      none_more n within zero old k later below = elim (cases_lt (k + apart) at) [
+        | inl before ↦ old k later before
+        | inr not ↦
+            let lane = k + apart - at in
+            let same : at + lane - apart ≡ k = omega arith in
+            ap (hit_from pair first_mask second_mask three apart haystack) (sym same)
+            ∙ (sym (has lane (omega arith) (omega arith)) ∙ zero lane (omega arith))
+      ]
 
-          pub is_pair : (k : ℕ) → k + apart ≡ at + n
-              → pair_hit pair first_mask second_mask three apart haystack k ≢ 0
-          is_pair k place none =
-              let inside = far in
-              let same : at + (16 - apart + n) ≡ k + 16 = omega arith in
-              some (in_haystack k (at + (16 - apart + n)) (omega arith) same ∙ none)
+      pub is_pair : (n : ℕ) → n < width → get_or lanes n 0 ≢ 0 → (k : ℕ) → origin ≤ k → k + apart ≡ at + n
+          → hit_from pair first_mask second_mask three apart haystack k ≢ 0
+      is_pair n below stops k after place none =
+          let same : at + n - apart ≡ k = omega arith in
+          stops (has n below (omega arith)
+          ∙ (ap (hit_from pair first_mask second_mask three apart haystack) same ∙ none))
 
 module _ (pair : RarePair) (first_mask second_mask : ℕ) (three : Bool) (apart offset : ℕ)
     (is_first : first_mask ≡ pair.first.mask) (is_second : second_mask ≡ pair.second.mask)
     (is_three : three ≡ has_between pair) (is_apart : apart ≡ min pair.apart 3) (is_offset : offset ≡ min pair.offset 2)
     (haystack : List ℕ)
   where
-    few : apart ≤ 3
+    pub few : apart ≤ 3
     few = omega arith
 
+    pub wide : three ≡ true → 2 ≤ apart
+    wide known = omega (arith, far_by pair (sym is_three ∙ known))
+
     abbrev HitAt : ℕ → ℕ
-    HitAt = pair_hit pair first_mask second_mask three apart haystack
+    HitAt = hit_from pair first_mask second_mask three apart haystack
+
+    -- the lanes of the first vector, and where they may be set
+    pub first_vector : (start : ℕ) (here pairs later : List ℕ) → HasLanes here (λ k. get_or haystack (start + k) 0)
+        → ((bytes : ℕ → ℕ) → HasLanes here bytes → HasLanes here (λ k. bytes (16 + k))
+        → HasLanes pairs (λ k. pair_hit pair first_mask second_mask three apart (λ j. bytes (16 - apart + k + j))))
+        → HasLanes later (λ k. cond (ltb k apart) 0 (bit_and (get_or pairs k 0) 255))
+        → PairLanes pair first_mask second_mask three apart haystack start 16 later start
+        × ((n : ℕ) → n < 16 → get_or later n 0 ≢ 0 → apart ≤ n)
+    first_vector start here pairs later has paired without =
+        let byte = λ (n : ℕ). get_or haystack n 0 in
+        let hits = paired (λ k. byte (start + k % 16))
+        (same_lanes 16 here _ _ has (λ k below. ap byte (omega arith)))
+        (same_lanes 16 here _ _ has (λ k below. ap byte (omega arith))) in (
+          first_lanes pair first_mask second_mask three apart haystack start few wide pairs later hits without,
+          first_far pair first_mask second_mask three apart haystack start few wide pairs later hits without,
+        )
+
+    -- the lanes of later vectors
+    pub later_vector : (start at : ℕ) (before here pairs : List ℕ) → start + 16 ≤ at
+        → HasLanes before (λ k. get_or haystack (at + k - 16) 0) → HasLanes here (λ k. get_or haystack (at + k) 0)
+        → ((bytes : ℕ → ℕ) → HasLanes before bytes → HasLanes here (λ k. bytes (16 + k))
+        → HasLanes pairs (λ k. pair_hit pair first_mask second_mask three apart (λ j. bytes (16 - apart + k + j))))
+        → PairLanes pair first_mask second_mask three apart haystack start 16 pairs at
+    later_vector start at before here pairs after old new paired =
+        let byte = λ (n : ℕ). get_or haystack n 0 in
+        lanes_at pair first_mask second_mask three apart haystack start few 16 at pairs after
+        (paired (λ k. byte (at + k - 16)) old (same_lanes 16 here _ _ new (λ k below. ap byte (omega arith))))
+
+    pub wide_vector : (start at : ℕ) (before here pairs : List ℕ) → start + 16 ≤ at
+        → HasBack before (λ k. get_or haystack (at + k - 16) 0) → HasWide here (λ k. get_or haystack (at + k) 0)
+        → ((bytes : ℕ → ℕ) → HasBack before bytes → HasWide here (λ k. bytes (16 + k))
+        → HasWide pairs (λ k. pair_hit pair first_mask second_mask three apart (λ j. bytes (16 - apart + k + j))))
+        → PairLanes pair first_mask second_mask three apart haystack start 32 pairs at
+    wide_vector start at before here pairs after old new paired =
+        let byte = λ (n : ℕ). get_or haystack n 0 in
+        lanes_at pair first_mask second_mask three apart haystack start few 32 at pairs after
+        (paired (λ k. byte (at + k - 16)) old (same_lanes 32 here _ _ new (λ k below. ap byte (omega arith))))
 
     -- no pattern with the pair begins where the haystack has no pair that lies in the span
     pub no_pair_begins : (span : Span) → IsValidSpan haystack span → (place : ℕ)
@@ -267,23 +304,21 @@ module _ (pair : RarePair) (first_mask second_mask : ℕ) (three : Bool) (apart 
     -- where a lane is set, the haystack has the pair, if it lies behind the start
     pub has_pair : (start width at : ℕ) (lanes : List ℕ)
         → PairLanes pair first_mask second_mask three apart haystack start width lanes at → start ≤ at → (n : ℕ)
-        → n < width → get_or lanes n 0 ≢ 0 → offset + apart ≤ at + n
+        → n < width → get_or lanes n 0 ≢ 0 → start + offset + apart ≤ at + n
         → HasPair pair haystack (at + n - (offset + apart))
     has_pair start width at lanes has after n below stops low =
         let k = at + n - (offset + apart) + first_offset pair in
-        has_bytes k (is_pair pair first_mask second_mask three apart haystack start few width at lanes has after n below
-        stops k (omega (arith, is_offset)))
+        has_bytes k (is_pair pair first_mask second_mask three apart haystack start width at lanes has after n
+        below stops k (omega (arith, is_offset)) (omega (arith, is_offset)))
 
     -- and where the pattern would begin before the start, the pair is one of an earlier pattern
     pub has_earlier : (start : ℕ) (lanes : List ℕ)
         → PairLanes pair first_mask second_mask three apart haystack start 16 lanes start → (n : ℕ) → n < 16
-        → get_or lanes n 0 ≢ 0 → n < offset + apart → HasPairOfEarlier pair haystack start
-    has_earlier start lanes has n below stops low =
-        let inside = far pair first_mask second_mask three apart haystack start few 16 start lanes has (omega arith)
-        n below stops in
+        → get_or lanes n 0 ≢ 0 → apart ≤ n → n < offset + apart → HasPairOfEarlier pair haystack start
+    has_earlier start lanes has n below stops inside low =
         let k = n - apart in (
           k,
           omega (arith, is_offset),
-          has_bytes (start + k) (is_pair pair first_mask second_mask three apart haystack start few 16 start lanes has
-              (omega arith) n below stops (start + k) (omega arith)),
+          has_bytes (start + k) (is_pair pair first_mask second_mask three apart haystack start 16 start lanes
+              has (omega arith) n below stops (start + k) (omega arith) (omega arith)),
         )

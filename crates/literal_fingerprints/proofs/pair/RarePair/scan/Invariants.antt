@@ -1,5 +1,5 @@
-use Rattle.std.proofs.Common.{◌≡◌, ◌+◌, ◌-◌, ◌≤◌}
-use Rattle.literal_fingerprints.specs.Inside.Hits.{AreBackHits}
+use Rattle.std.proofs.Common.{◌≡◌, ◌+◌, ◌-◌, ◌≤◌, get_or}
+use Rattle.literal_fingerprints.specs.Inside.Lanes.{HasBack}
 use Rattle.literal_fingerprints.proofs.lemmas.Hits.{NoneHit}
 use Rattle.literal_fingerprints.proofs.pair.RarePair.scan.Given as goal
 
@@ -7,7 +7,7 @@ abbrev pub invariant-loop-at : goal.invariant-loop-at
 invariant-loop-at l = record {
   low : l.span.start + 16 ≤ l.at;
   high : l.at ≤ l.span.end;
-  before : AreBackHits l.before l.self l.first_mask l.second_mask l.haystack l.span.start l.at;
+  before : HasBack l.before (λ k. get_or l.haystack (l.at + k - 16) 0);
   none : NoneHit l.self l.first_mask l.second_mask l.by_three l.apart l.haystack l.span.start l.at;
   scanned : l.tally ≡ record l.fn.tally { scanned = l.fn.tally.scanned + (l.at - l.span.start) };
 }
