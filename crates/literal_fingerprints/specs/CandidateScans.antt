@@ -1,9 +1,11 @@
 -- Scans that stop where a pattern may begin.
-use Rattle.std.specs.Prelude.{ℕ, ◌+◌, ◌-◌, ◌<◌, Bool, List, MatchOption, None, Option, Some, drop, map, min}
+use Rattle.std.specs.Prelude.{ℕ, ◌+◌, ◌-◌, ◌<◌, Bool, IfSome, List, MatchOption, None, Option, Some, drop}
+use Rattle.std.specs.Prelude.{map, min}
 use Rattle.literal_base.specs.declared.search.Span.{Span}
 use Rattle.literal_base.specs.Occurs.{Occurs, between}
 use Rattle.literal_fingerprints.specs.FingerprintsValue.{AllPass, FingerprintsMayStop}
 use Rattle.literal_fingerprints.specs.RarePairs.{AreOf, PairMayStop}
+use Rattle.literal_fingerprints.specs.ShortPatterns.{IsOnly}
 use Rattle.literal_fingerprints.specs.declared.candidates.CandidateScan.{CandidateScan}
 use Rattle.literal_fingerprints.specs.declared.pair.RarePair.{RarePair}
 
@@ -17,6 +19,11 @@ abbrev pub StopsAtEach : CandidateScan → Bool → List (List ℕ) → Type 0
 StopsAtEach scan ignore_case patterns =
     MatchOption scan.pair (AllPass scan.fingerprints ignore_case (without_first scan.skipped patterns))
     (λ pair. AreOf pair ignore_case (without_first scan.skipped patterns))
+
+-- the scan stops at each of the patterns, and the short one is the only pattern, if there is one
+abbrev pub IsScanFor : CandidateScan → Bool → List (List ℕ) → Type 0
+IsScanFor scan ignore_case patterns =
+    StopsAtEach scan ignore_case patterns × IfSome scan.short (λ short. IsOnly short ignore_case patterns)
 
 -- no pattern at which the scan stops begins before the offset and lies whole in the span
 abbrev pub NoneBeginsBefore : CandidateScan → List ℕ → Span → ℕ → Type 0

@@ -1,12 +1,14 @@
 //! The scan that suits a list of patterns.
-ghost use Rattle.std.specs.Prelude.{◌≡◌, ◌∷◌, [], ℕ, List, ◌+◌, ◌-◌, ◌*◌, ◌<◌, ◌≤◌, IfSome, IsSome, length, map};
+ghost use Rattle.std.specs.Prelude.{◌≡◌, ◌∷◌, [], ℕ, List, ◌+◌, ◌-◌, ◌*◌, ◌<◌, ◌≤◌, IfSome, IsSome, false, length, map};
 ghost use Rattle.literal_base.specs.Occurs.{IsValidSpan};
-ghost use Rattle.literal_fingerprints.specs.CandidateScans.{MayStop, NoneBeginsBefore, StopsAtEach, ahead_of};
+ghost use Rattle.literal_fingerprints.specs.CandidateScans.{IsScanFor, MayStop, NoneBeginsBefore, ahead_of};
 ghost use Rattle.literal_fingerprints.specs.CandidateScans.{without_first};
 ghost use Rattle.literal_fingerprints.specs.RarePairs.{AreOf};
+ghost use Rattle.literal_fingerprints.specs.ShortPatterns.{IsOnly};
 
 use crate::fingerprints::{BYTES, Fingerprints};
 use crate::pair::{RarePair, bytes_before_pair};
+use crate::short::ShortPattern;
 use literal_base::Span;
 use literal_base::count::Tally;
 
@@ -19,6 +21,8 @@ pub struct CandidateScan {
     pub pair: Option<RarePair>,
     /// The number of first bytes of each pattern that the scan skips.
     pub skipped: u8,
+    /// The only pattern, if it has at most 16 bytes and case is kept.
+    pub short: Option<ShortPattern>,
 }
 
 impl CandidateScan {
@@ -26,16 +30,20 @@ impl CandidateScan {
     /// is no pattern, if one is empty, or if several have no fingerprints.
     pub fn new(ignore_case: bool, patterns: &[Vec<u8>]) -> Option<CandidateScan>
         ensures stops { IfSome result
-            (λ scan. StopsAtEach scan ignore_case (map (λ pattern. pattern.items) patterns.now)) }
+            (λ scan. IsScanFor scan ignore_case (map (λ pattern. pattern.items) patterns.now)) }
         ensures some { IfSome result (λ _. (0 < length patterns.now) × (length patterns.now ≤ 64)) }
         ensures one { (pattern : List ℕ) → map (λ pattern. pattern.items) patterns.now ≡ pattern ∷ []
             → 0 < length pattern → IsSome result }
+        ensures short { (pattern : List ℕ) → map (λ pattern. pattern.items) patterns.now ≡ pattern ∷ []
+            → 0 < length pattern → length pattern ≤ 16 → ignore_case ≡ false
+            → IfSome result (λ scan. IsSome scan.short) }
     {
         if let Some((skipped, pair)) = pair_for(ignore_case, patterns) {
             return Some(CandidateScan {
                 fingerprints: Fingerprints::from_bytes(&[0; BYTES]),
                 pair: Some(pair),
                 skipped,
+                short: short_for(ignore_case, patterns),
             });
         }
         let fingerprints = Fingerprints::new(ignore_case, patterns)?;
@@ -43,6 +51,7 @@ impl CandidateScan {
             fingerprints,
             pair: None,
             skipped: 0,
+            short: None,
         })
     }
 
@@ -82,6 +91,18 @@ impl CandidateScan {
             Some(_) => 37,
         }
     }
+}
+
+/// The only pattern, if it has at most 16 bytes and case is kept.
+fn short_for(ignore_case: bool, patterns: &[Vec<u8>]) -> Option<ShortPattern>
+    ensures only { IfSome result (λ short. IsOnly short ignore_case (map (λ pattern. pattern.items) patterns.now)) }
+    ensures some { (pattern : List ℕ) → map (λ pattern. pattern.items) patterns.now ≡ pattern ∷ []
+        → 0 < length pattern → length pattern ≤ 16 → ignore_case ≡ false → IsSome result }
+{
+    if ignore_case || patterns.len() != 1 {
+        return None;
+    }
+    ShortPattern::new(&patterns[0])
 }
 
 /// The number of first bytes of the only pattern that are skipped, and the pair of the others.

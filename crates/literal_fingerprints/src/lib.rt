@@ -10,8 +10,10 @@ pub mod laws;
 mod looked_up;
 mod nibbles;
 mod pair;
+mod short;
 mod wide;
 
 pub use candidates::CandidateScan;
 pub use fingerprints::{BYTES, Fingerprints};
 pub use pair::{PAIR_BYTES, RareByte, RarePair};
+pub use short::{SHORT_BYTES, ShortPattern};

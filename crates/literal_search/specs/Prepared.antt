@@ -5,10 +5,12 @@ use Rattle.std.specs.Int.Bits.{bit_xor}
 use Rattle.std.specs.List.{All}
 use Rattle.literal_base.specs.MatchValue.{MatchValue}
 use Rattle.literal_base.specs.declared.search.Span.{Span}
-use Rattle.literal_fingerprints.specs.CandidateScans.{StopsAtEach}
+use Rattle.literal_fingerprints.specs.CandidateScans.{IsScanFor}
 use Rattle.literal_fingerprints.specs.RarePairs.{pair_in}
+use Rattle.literal_fingerprints.specs.ShortPatterns.{short_in}
 use Rattle.literal_fingerprints.specs.declared.candidates.CandidateScan.{CandidateScan}
 use Rattle.literal_fingerprints.specs.declared.pair.RarePair.{RarePair}
+use Rattle.literal_fingerprints.specs.declared.short.ShortPattern.{ShortPattern}
 use Rattle.literal_fingerprints.specs.FingerprintsValue.{fingerprints_in}
 use Rattle.literal_search.specs.SearchValue.{CanBeKept, HoldsInClasses, longest_of, SearchValue}
 use Rattle.literal_search.specs.SearchValue.{reversed, unshadowed}
@@ -19,6 +21,7 @@ use Rattle.literal_search.specs.Table.{Recognises}
 use Rattle.literal_search.specs.declared.classes.TheConstants.{CLASSES_LEN, PACKED_LEN}
 use Rattle.literal_search.specs.declared.prepared.ArrayTooShort.{ArrayTooShort}
 use Rattle.literal_search.specs.declared.prepared.TheConstants.{LENGTHS_AT, PAIR_AT, PREPARED_VERSION, SCAN_LEN}
+use Rattle.literal_search.specs.declared.prepared.TheConstants.{SHORT_AT}
 use Rattle.literal_search.specs.MatchesValue.{MatchesValue}
 use Rattle.literal_ids.specs.declared.primitives.pattern_id.TheConstants.PatternID
 
@@ -62,13 +65,18 @@ past_skipped prints = slice_index prints 0
 abbrev pub pair_of : List ℕ → Option RarePair
 pair_of bytes = if slice_index bytes 0 == 0 then None else Some (pair_in bytes)
 
--- the scan for candidates in such numbers. They hold the bytes of the fingerprints and of the rare pair, four each, the
--- first in the lowest eight bits
+-- the short pattern in twenty bytes, if the first of them is not 0
+abbrev pub short_of : List ℕ → Option ShortPattern
+short_of bytes = if slice_index bytes 0 == 0 then None else Some (short_in bytes)
+
+-- the scan for candidates in such numbers. They hold the bytes of the fingerprints, of the rare pair and of the short
+-- pattern, four each, the first in the lowest eight bits
 unfoldable pub scan_by : List ℕ → CandidateScan
 scan_by prints = record {
   fingerprints = fingerprints_in (unpacked (slice_range prints 1 PAIR_AT));
-  pair = pair_of (unpacked (drop PAIR_AT prints));
+  pair = pair_of (unpacked (slice_range prints PAIR_AT SHORT_AT));
   skipped = (past_skipped prints - 1) % 256;
+  short = short_of (unpacked (drop SHORT_AT prints));
 }
 
 -- a number of 32 bits, mixed so that different numbers stay different: its upper half is xored into the lower one, and
@@ -186,7 +194,7 @@ back_tables_in search numbers = record {
 
 -- if such numbers describe a scan for candidates, it stops at each of the patterns
 abbrev pub ArePrints : List (List ℕ) → Bool → List ℕ → Type 0
-ArePrints patterns ignore_case prints = 0 < past_skipped prints → StopsAtEach (scan_by prints) ignore_case patterns
+ArePrints patterns ignore_case prints = 0 < past_skipped prints → IsScanFor (scan_by prints) ignore_case patterns
 
 -- the array begins with a whole search for leftmost matches: with its tables, the length of each pattern, and a scan
 -- that stops at each pattern, if there is one

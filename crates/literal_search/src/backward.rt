@@ -71,6 +71,15 @@ pub struct Marks {
     pub part: usize,
 }
 
+/// What a search ahead came to.
+#[derive(Clone, Copy)]
+pub struct Looked {
+    /// The next match, if it was found at once.
+    pub found: Option<Match>,
+    /// Where the search is: after the start of the match, or no pattern begins before this offset.
+    pub at: usize,
+}
+
 /// Where a list continues after a match: at its end, or one byte after its start, so that matches may overlap.
 #[derive(Clone, Copy)]
 pub enum Continuation {
@@ -125,8 +134,11 @@ impl<'t> Backward<'t> {
     {
         let mut from = at;
         while from < span.end {
-            let at = self.mark_from(haystack, span, from, numbers, marks, tally)?;
-            let found = self.next_marked(haystack, span, at, numbers, *marks)?;
+            let looked = self.mark_from(haystack, span, from, numbers, marks, tally)?;
+            if looked.found.is_some() {
+                return Ok(looked.found);
+            }
+            let found = self.next_marked(haystack, span, looked.at, numbers, *marks)?;
             if found.is_some() {
                 return Ok(found);
             }
@@ -185,8 +197,7 @@ impl<'t> Backward<'t> {
         Ok(answer)
     }
 
-    /// Marks further offsets from one on, unless it is known what begins there. No pattern begins before the returned
-    /// offset.
+    /// Marks further offsets from one on, unless it is known what begins there.
     #[inline(always)]
     fn mark_from(
         &self,
@@ -196,7 +207,7 @@ impl<'t> Backward<'t> {
         numbers: &mut [u32],
         marks: &mut Marks,
         tally: &mut Tally,
-    ) -> Result<usize, Damaged>
+    ) -> Result<Looked, Damaged>
         requires safe { IsSafe self.now }
         requires valid { IsValidSpan haystack.now span }
         requires more { from < span.end }
@@ -206,14 +217,14 @@ impl<'t> Backward<'t> {
             tally.new result }
     {
         if from < marks.known {
-            return Ok(from);
+            return Ok(nothing_before(from));
         }
         self.mark_ahead(haystack, span, from, numbers, marks, tally)
     }
 
-    /// The same if it is not known. A scan for candidates passes over bytes. At a candidate it marks this offset alone
-    /// if the scan passed over enough, otherwise a block. It is not inlined, so that a match in a marked block costs
-    /// little.
+    /// The same if it is not known. A scan for candidates passes over bytes. If it passed over enough, the haystack is
+    /// compared with the only pattern if that is short, and otherwise the offset is marked alone. If not, a block is
+    /// marked. It is not inlined, so that a match in a marked block costs little.
     #[tactic(auto, using(crate::proofs::lemmas::Leftmost::ahead_few))]
     #[inline(never)]
     fn mark_ahead(
@@ -224,7 +235,7 @@ impl<'t> Backward<'t> {
         numbers: &mut [u32],
         marks: &mut Marks,
         tally: &mut Tally,
-    ) -> Result<usize, Damaged>
+    ) -> Result<Looked, Damaged>
         requires safe { IsSafe self.now }
         requires valid { IsValidSpan haystack.now span }
         requires more { from < span.end }
@@ -243,7 +254,12 @@ impl<'t> Backward<'t> {
         let part = self.part_after(marks.part, at - from);
         *marks = no_marks(span.end);
         if at == span.end {
-            return Ok(at);
+            return Ok(nothing_before(at));
+        }
+        if let Some(short) = self.short_at(span, from, at) {
+            *marks = no_marks(at + 1);
+            let found = self.compare_at(&short, haystack, span, at, tally);
+            return Ok(Looked { found, at: at + 1 });
         }
         let longest = self.table.longest;
         *marks = if at - from >= longest.max(longest / 2 + FAR) {
@@ -251,7 +267,7 @@ impl<'t> Backward<'t> {
         } else {
             self.mark_block(haystack, span, at, part, numbers, tally)?
         };
-        Ok(at)
+        Ok(nothing_before(at))
     }
 
     /// Marks one offset, if a pattern begins there.
@@ -720,6 +736,13 @@ fn unmarked_from(numbers: &[u32], at: usize) -> usize
     } else {
         begun.trailing_zeros() as usize
     }
+}
+
+/// Nothing was found, and nothing begins before an offset.
+pub(crate) fn nothing_before(at: usize) -> Looked
+    ensures { result ≡ record { found = None; at = at } }
+{
+    Looked { found: None, at }
 }
 
 /// No marks: nothing is known from an offset on.

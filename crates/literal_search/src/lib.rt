@@ -35,6 +35,7 @@ mod replace_stream;
 mod scan;
 mod search;
 mod shadowed;
+mod short;
 mod sought;
 mod stream;
 mod suffixes;

@@ -7,6 +7,7 @@ ghost use Rattle.std.specs.Int.{from_le_bytes, w32};
 ghost use Rattle.std.specs.List.{repeat};
 ghost use Rattle.literal_search.specs.Prepared.{AreShort, HasParts};
 ghost use Rattle.literal_search.specs.Prepared.{check_of, check_with, joined_with, pair_of, past_skipped, scan_by};
+ghost use Rattle.literal_search.specs.Prepared.{short_of};
 ghost use Rattle.literal_search.specs.SearchValue.{longest_of};
 ghost use Rattle.literal_search.specs.Inside.Prepared.{IsHeader, Puts, numbers_for, header_table};
 ghost use Rattle.literal_search.specs.Inside.Packed.{packed, unpacked};
@@ -17,7 +18,9 @@ use crate::longest_len;
 use crate::walk::{NOTHING, Table};
 use literal_base::count::Tally;
 use literal_base::{Match, Span};
-use literal_fingerprints::{BYTES, CandidateScan, Fingerprints, PAIR_BYTES, RarePair};
+use literal_fingerprints::{
+    BYTES, CandidateScan, Fingerprints, PAIR_BYTES, RarePair, SHORT_BYTES, ShortPattern,
+};
 use literal_ids::PatternID;
 use std::alloc::{AllocError, Global};
 use std::error::Error;
@@ -25,10 +28,10 @@ use std::fmt;
 use std::marker::Model;
 
 /// The first number of a prepared search for leftmost matches.
-pub const PREPARED_VERSION: u32 = 0x4C50_000B;
+pub const PREPARED_VERSION: u32 = 0x4C50_000C;
 
 /// The first number of a prepared search for every occurrence.
-pub const OVERLAPPING_VERSION: u32 = 0x4C4F_0009;
+pub const OVERLAPPING_VERSION: u32 = 0x4C4F_000A;
 
 /// The index of the first pattern length. Before it are the version, the checksum, the width, the number of patterns,
 /// the number of numbers in the rows, and the length of the longest pattern. After the lengths come the rows, and the
@@ -36,18 +39,21 @@ pub const OVERLAPPING_VERSION: u32 = 0x4C4F_0009;
 pub const LENGTHS_AT: usize = 6;
 
 /// How many numbers describe a scan for candidates, after all others. The first is one more than the number of bytes
-/// that the scan skips, or 0 if there is no scan. The others hold the bytes of its fingerprints and of its rare pair,
-/// four each. A missing part is zeros.
-pub const SCAN_LEN: usize = PAIR_AT + PAIR_BYTES / 4;
+/// that the scan skips, or 0 if there is no scan. The others hold the bytes of its fingerprints, its rare pair and its
+/// short pattern, four each. A missing part is zeros.
+pub const SCAN_LEN: usize = SHORT_AT + SHORT_BYTES / 4;
 
 /// The index among these of the first number of the rare pair.
 const PAIR_AT: usize = 1 + BYTES / 4;
 
+/// The index among these of the first number of the short pattern.
+pub const SHORT_AT: usize = PAIR_AT + PAIR_BYTES / 4;
+
 /// The prepared search for leftmost matches of no pattern: [`PREPARED_VERSION`], its checksum, one class, no pattern,
 /// two numbers in the rows, and the longest length 0. Then come the row of the only state, which its one class leads to
 /// and where no pattern ends, this class for each byte, and no scan for candidates.
-pub const NO_PATTERN: [u32; 299] = [
-    0x4C50000B, 0x3AC675CE, 1, 0, 2, 0, 0, NOTHING, 0, 0, 0, 0, 0, 0, 0, 0, 0, 0, 0, 0, 0, 0, 0, 0,
+pub const NO_PATTERN: [u32; 304] = [
+    0x4C50000C, 0xB0191C22, 1, 0, 2, 0, 0, NOTHING, 0, 0, 0, 0, 0, 0, 0, 0, 0, 0, 0, 0, 0, 0, 0, 0,
     0, 0, 0, 0, 0, 0, 0, 0, 0, 0, 0, 0, 0, 0, 0, 0, 0, 0, 0, 0, 0, 0, 0, 0, 0, 0, 0, 0, 0, 0, 0, 0,
     0, 0, 0, 0, 0, 0, 0, 0, 0, 0, 0, 0, 0, 0, 0, 0, 0, 0, 0, 0, 0, 0, 0, 0, 0, 0, 0, 0, 0, 0, 0, 0,
     0, 0, 0, 0, 0, 0, 0, 0, 0, 0, 0, 0, 0, 0, 0, 0, 0, 0, 0, 0, 0, 0, 0, 0, 0, 0, 0, 0, 0, 0, 0, 0,
@@ -56,13 +62,13 @@ pub const NO_PATTERN: [u32; 299] = [
     0, 0, 0, 0, 0, 0, 0, 0, 0, 0, 0, 0, 0, 0, 0, 0, 0, 0, 0, 0, 0, 0, 0, 0, 0, 0, 0, 0, 0, 0, 0, 0,
     0, 0, 0, 0, 0, 0, 0, 0, 0, 0, 0, 0, 0, 0, 0, 0, 0, 0, 0, 0, 0, 0, 0, 0, 0, 0, 0, 0, 0, 0, 0, 0,
     0, 0, 0, 0, 0, 0, 0, 0, 0, 0, 0, 0, 0, 0, 0, 0, 0, 0, 0, 0, 0, 0, 0, 0, 0, 0, 0, 0, 0, 0, 0, 0,
-    0, 0, 0, 0, 0, 0, 0, 0, 0, 0, 0, 0, 0, 0, 0, 0, 0, 0, 0,
+    0, 0, 0, 0, 0, 0, 0, 0, 0, 0, 0, 0, 0, 0, 0, 0, 0, 0, 0, 0, 0, 0, 0, 0,
 ];
 
 /// The prepared search for every occurrence of no pattern: [`OVERLAPPING_VERSION`], its checksum, and the numbers of
 /// [`NO_PATTERN`], with one more for the end of the empty list of lists.
-pub const NO_LISTED: [u32; 300] = [
-    0x4C4F0009, 0xA3D626F6, 1, 0, 2, 0, 0, NOTHING, 0, 0, 0, 0, 0, 0, 0, 0, 0, 0, 0, 0, 0, 0, 0, 0,
+pub const NO_LISTED: [u32; 305] = [
+    0x4C4F000A, 0xE1A1BED8, 1, 0, 2, 0, 0, NOTHING, 0, 0, 0, 0, 0, 0, 0, 0, 0, 0, 0, 0, 0, 0, 0, 0,
     0, 0, 0, 0, 0, 0, 0, 0, 0, 0, 0, 0, 0, 0, 0, 0, 0, 0, 0, 0, 0, 0, 0, 0, 0, 0, 0, 0, 0, 0, 0, 0,
     0, 0, 0, 0, 0, 0, 0, 0, 0, 0, 0, 0, 0, 0, 0, 0, 0, 0, 0, 0, 0, 0, 0, 0, 0, 0, 0, 0, 0, 0, 0, 0,
     0, 0, 0, 0, 0, 0, 0, 0, 0, 0, 0, 0, 0, 0, 0, 0, 0, 0, 0, 0, 0, 0, 0, 0, 0, 0, 0, 0, 0, 0, 0, 0,
@@ -71,7 +77,7 @@ pub const NO_LISTED: [u32; 300] = [
     0, 0, 0, 0, 0, 0, 0, 0, 0, 0, 0, 0, 0, 0, 0, 0, 0, 0, 0, 0, 0, 0, 0, 0, 0, 0, 0, 0, 0, 0, 0, 0,
     0, 0, 0, 0, 0, 0, 0, 0, 0, 0, 0, 0, 0, 0, 0, 0, 0, 0, 0, 0, 0, 0, 0, 0, 0, 0, 0, 0, 0, 0, 0, 0,
     0, 0, 0, 0, 0, 0, 0, 0, 0, 0, 0, 0, 0, 0, 0, 0, 0, 0, 0, 0, 0, 0, 0, 0, 0, 0, 0, 0, 0, 0, 0, 0,
-    0, 0, 0, 0, 0, 0, 0, 0, 0, 0, 0, 0, 0, 0, 0, 0, 0, 0, 0, 0,
+    0, 0, 0, 0, 0, 0, 0, 0, 0, 0, 0, 0, 0, 0, 0, 0, 0, 0, 0, 0, 0, 0, 0, 0, 0,
 ];
 
 /// The start of the first of the four checksums; the others start at 0. It is not zero, so that zeros do not have the
@@ -192,7 +198,8 @@ pub fn scan_numbers(scan: Option<&CandidateScan>) -> [u32; SCAN_LEN]
         return numbers;
     };
     numbers[0] = scan.skipped as u32 + 1;
-    numbers[PAIR_AT..].copy_from_slice(&pair_numbers(&scan.pair));
+    numbers[SHORT_AT..].copy_from_slice(&short_numbers(&scan.short));
+    numbers[PAIR_AT..SHORT_AT].copy_from_slice(&pair_numbers(&scan.pair));
     pack(&scan.fingerprints.to_bytes(), &mut numbers[1..PAIR_AT]);
     numbers
 }
@@ -204,6 +211,17 @@ fn pair_numbers(pair: &Option<RarePair>) -> [u32; PAIR_BYTES / 4]
     let mut numbers = [0; PAIR_BYTES / 4];
     if let Some(pair) = pair {
         pack(&pair.to_bytes(), &mut numbers);
+    }
+    numbers
+}
+
+/// The numbers of a short pattern, or zeros if there is none.
+fn short_numbers(short: &Option<ShortPattern>) -> [u32; SHORT_BYTES / 4]
+    ensures { short_of (unpacked result) ≡ short.now }
+{
+    let mut numbers = [0; SHORT_BYTES / 4];
+    if let Some(short) = short {
+        pack(&short.to_bytes(), &mut numbers);
     }
     numbers
 }
@@ -250,8 +268,9 @@ fn scan_by(prints: &[u32]) -> CandidateScan
     unpack(&prints[1..PAIR_AT], &mut bytes);
     CandidateScan {
         fingerprints: Fingerprints::from_bytes(&bytes),
-        pair: pair_by(&prints[PAIR_AT..SCAN_LEN]),
+        pair: pair_by(&prints[PAIR_AT..SHORT_AT]),
         skipped: (prints[0].saturating_sub(1) % 256) as u8,
+        short: short_by(&prints[SHORT_AT..SCAN_LEN]),
     }
 }
 
@@ -267,6 +286,20 @@ fn pair_by(numbers: &[u32]) -> Option<RarePair>
         return None;
     }
     Some(RarePair::from_bytes(&bytes))
+}
+
+/// The short pattern that these numbers describe, if there is one.
+#[inline(always)]
+pub fn short_by(numbers: &[u32]) -> Option<ShortPattern>
+    requires { length numbers.now ≡ 5 }
+    ensures { result ≡ short_of (unpacked numbers.now) }
+{
+    let mut bytes = [0; SHORT_BYTES];
+    unpack(numbers, &mut bytes);
+    if bytes[0] == 0 {
+        return None;
+    }
+    Some(ShortPattern::from_bytes(&bytes))
 }
 
 /// Writes the bytes that are packed into numbers.

@@ -1,6 +1,6 @@
-//! `Fingerprints`.
+//! `Fingerprints` and `ShortPattern`.
 use literal_base::count::Tally;
-use literal_fingerprints::Fingerprints;
+use literal_fingerprints::{Fingerprints, ShortPattern};
 use literal_search::Span;
 use std::alloc::{AllocError, Global};
 use std::process::Abort;
@@ -79,6 +79,22 @@ fn scans_for_words(rt: HostRuntime) -> Result<(), Fail> {
     assert!(rt; scan.next(haystack, open, tally) == 38);
     let same = Fingerprints::from_bytes(&scan.to_bytes());
     assert!(rt; same.next(haystack, behind, tally) == 46);
+    Ok(())
+}
+
+#[test]
+fn compares_with_short_patterns(rt: HostRuntime) -> Result<(), Fail> {
+    let short = ShortPattern::new(b"secret").ok_or("it is not short")?;
+    let haystack = b"My first, my second, my secret and the others.";
+    let tally = &mut Tally::new();
+    assert!(rt; short.is_at(haystack, 24, tally));
+    assert!(rt; !short.is_at(haystack, 23, tally));
+    assert!(rt; !short.is_at(haystack, 13, tally));
+    let same = ShortPattern::from_bytes(&short.to_bytes());
+    assert!(rt; same.is_at(haystack, 24, tally));
+    assert!(rt; ShortPattern::new(b"").is_none());
+    assert!(rt; ShortPattern::new(&haystack[..16]).is_some());
+    assert!(rt; ShortPattern::new(&haystack[..17]).is_none());
     Ok(())
 }
 

@@ -31,7 +31,7 @@ fn fills_as_many_places_as_it_tells(rt: HostRuntime) -> Result<(), Fail> {
     let mut array = vec![in rt.alloc(); 0; needed]?;
     assert!(rt; search.prepare(&mut array) == Ok(needed));
     // (the first number of the scan for candidates: there is one, and it skips no byte)
-    assert!(rt; array[needed - 35] == 1);
+    assert!(rt; array[needed - 40] == 1);
     assert!(rt; array.pop().is_some());
     assert!(rt; search.prepare(&mut array) == Err(ArrayTooShort { needed }));
     Ok(())

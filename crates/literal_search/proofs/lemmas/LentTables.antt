@@ -9,7 +9,7 @@ use Rattle.std.specs.Result.{IsOkAnd}
 use Rattle.literal_base.specs.MatchValue.{MatchValue}
 use Rattle.literal_base.specs.Occurs.{IsValidSpan, between, pattern_at}
 use Rattle.literal_base.specs.declared.search.Span.{Span}
-use Rattle.literal_fingerprints.specs.CandidateScans.{StopsAtEach}
+use Rattle.literal_fingerprints.specs.CandidateScans.{IsScanFor}
 use Rattle.literal_search.specs.Inside.Overlapping.{AreListed}
 use Rattle.literal_search.specs.Inside.Packed.{unpacked}
 use Rattle.literal_search.specs.Inside.LentTables.{AreFor, AreLent, IsNextBy, IsNextEnd, tables_by}
@@ -207,7 +207,7 @@ module _ {search : OverlappingValue} {p : LentTables} (are : AreFor search p) (h
 
 -- what is written of tables is prepared for their search
 module _ (t : Tables) (tables : AreTables t) (prints : List ℕ) (prints_long : length prints ≡ SCAN_LEN)
-    (pass : 0 < past_skipped prints → StopsAtEach (scan_by prints) t.ignore_case t.patterns)
+    (pass : 0 < past_skipped prints → IsScanFor (scan_by prints) t.ignore_case t.patterns)
   where
     abbrev pub all_of : List ℕ
     all_of = numbers_for OVERLAPPING_VERSION t.classes t.width t.patterns t.rows t.starts (t.ends ++ prints)
@@ -264,9 +264,9 @@ module _ (t : Tables) (tables : AreTables t) (prints : List ℕ) (prints_long : 
 
     whole : overlapping_len all_of ≡ length all_of
     whole =
-        let size : 6 + length t.patterns + length t.rows + 256 + length t.starts + length t.ends + 35 ≡ length all_of =
+        let size : 6 + length t.patterns + length t.rows + 256 + length t.starts + length t.ends + 40 ≡ length all_of =
         omega (arith, size, prints_long, length-append t.ends prints) in
-        ap (λ n. n + 35) listed_is ∙ size
+        ap (λ n. n + 40) listed_is ∙ size
 
     tables_are : t ≡ tables_in (overlapping_value t) all_of
     tables_are = grind (arith, classes_written, ends_are, rows_written, same_tables, starts_are)
@@ -290,7 +290,7 @@ module _ (t : Tables) (tables : AreTables t) (prints : List ℕ) (prints_long : 
         longest = refl;
         tables = subst AreTables tables_are tables;
         lengths = lengths_written OVERLAPPING_VERSION t.classes t.width t.patterns t.rows t.starts (t.ends ++ prints);
-        prints = subst (λ (p : List ℕ). 0 < past_skipped p → StopsAtEach (scan_by p) t.ignore_case t.patterns)
+        prints = subst (λ (p : List ℕ). 0 < past_skipped p → IsScanFor (scan_by p) t.ignore_case t.patterns)
             (sym prints_are) pass;
       };
       long = sym whole;

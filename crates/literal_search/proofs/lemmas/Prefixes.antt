@@ -2,7 +2,7 @@
 use Rattle.std.proofs.Common.{◌≡◌, ◌≢◌, ◌∙◌, ◌+◌, ◌-◌, ◌<◌, ◌≤◌, ◌++◌, ◌∷◌, [], ℕ, List}
 use Rattle.std.proofs.Common.{None, Option, Some, ap, append-nil}
 use Rattle.std.proofs.Common.{MatchOption, append_assoc, arith, drop, false, get_or, inl, inr, length, min, refl}
-use Rattle.std.proofs.Common.{subst, suc, sym, true}
+use Rattle.std.proofs.Common.{subst, suc, sym}
 use Rattle.std.proofs.lemmas.Bool.{cases_lt, false≢true}
 use Rattle.std.proofs.lemmas.Bool.Decides.{Decides-eqb}
 use Rattle.std.proofs.lemmas.Slice.Eq.{starts_is}

@@ -147,7 +147,7 @@ module _ {F W : Type 0} {contents : W → Option (List ℕ)}
   part_written part bytes_for holds holds_first writes =
       let done = part.are_rewritten in
       are_written contents step bytes_for holds part.text writes part.at written _ part.matches
-          done.last holds_first done.calls done.upto done.inside done.rest
+      done.last holds_first done.calls done.upto done.inside done.rest
 
 module _ {F W : Type 0} (contents : W → Option (List ℕ))
     (step : F → MatchValue → Bor (List ℕ) → MutBor W → Result ⊤ Error → MutBor W → F → Type 0)

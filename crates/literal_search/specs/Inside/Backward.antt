@@ -1,12 +1,14 @@
 -- Backward walks through a span, by tables that may be lent.
 use Rattle.std.specs.Prelude.{◌≡◌, ◌⊎◌, ℕ, ◌+◌, ◌-◌, ◌<◌, ◌≤◌, ◌^◌, ◌%◌, List, length, map}
-use Rattle.std.specs.Prelude.{IfOk, Option, Result, max, reverse, slice_index}
+use Rattle.std.specs.Prelude.{IfOk, IfSome, MatchOption, Option, Result, max, reverse, slice_index}
 use Rattle.std.specs.Result.{IsOkAnd}
 use Rattle.literal_base.specs.Counts.{Counts}
-use Rattle.literal_base.specs.Leftmost.{IsBetter}
+use Rattle.literal_base.specs.Leftmost.{IsBetter, IsLeftmostMatch}
 use Rattle.literal_base.specs.MatchValue.{MatchValue}
 use Rattle.literal_base.specs.Occurs.{Occurs, between}
 use Rattle.literal_base.specs.declared.search.Span.{Span}
+use Rattle.literal_fingerprints.specs.ShortPatterns.{IsOnly}
+use Rattle.literal_fingerprints.specs.declared.short.ShortPattern.{ShortPattern}
 use Rattle.literal_ids.specs.declared.primitives.pattern_id.TheConstants.PatternID
 use Rattle.literal_search.specs.MatchesValue.{offset_after_start, offset_at_end}
 use Rattle.literal_search.specs.SearchValue.{SearchValue}
@@ -17,6 +19,7 @@ use Rattle.literal_search.specs.Table.{Recognises}
 use Rattle.literal_search.specs.declared.backward.Backward.{Backward}
 use Rattle.literal_search.specs.declared.backward.Continuation.{Continuation}
 use Rattle.literal_search.specs.declared.backward.Continuation.TheVariants.{AfterStart, AtEnd}
+use Rattle.literal_search.specs.declared.backward.Looked.{Looked}
 use Rattle.literal_search.specs.declared.backward.Marks.{Marks}
 use Rattle.literal_search.specs.declared.backward.TheConstants.{LEAST}
 use Rattle.literal_search.specs.declared.prepared.Damaged.{Damaged}
@@ -150,14 +153,27 @@ pub record IsMatchBy (b : Backward) (span : Span) (at : ℕ) (found : MatchValue
   pub short : found.end ≤ found.start + b.table.longest
   pub pattern : found.pattern < length b.lens.now
 
--- it is known what begins at the answered offset and some way after it, and nothing begins before it
+-- a short pattern is the only pattern of every search whose tables these are. It has the length of the longest one
+pub record IsOnlyOf (b : Backward) (short : ShortPattern) : Type 0 where
+  pub only : ForBackward b (λ tables. IsOnly short tables.search.ignore_case tables.search.query.patterns)
+  pub len : short.len ≡ b.table.longest
+  pub some : 0 < short.len
+  pub few : short.len ≤ 16
+  pub has_length : 0 < length b.lens.now
+
+-- A match was found, or nothing begins before the answered offset. From there on it is known what begins, up to some
+-- offset
 pub record HasLookedAhead (b : Backward) (haystack : List ℕ) (span : Span) (from : ℕ) (numbers numbers_new : List ℕ)
-    (m new : Marks) (old_counts counts : Counts) (result : Result ℕ Damaged) : Type 0 where
-  pub later : IfOk result (λ at. (from ≤ at) × (at ≤ new.known))
-  pub none : ForBackward b (λ tables. IsOkAnd result (NoneFrom tables haystack span.end from))
+    (m new : Marks) (old_counts counts : Counts) (result : Result Looked Damaged) : Type 0 where
+  pub later : IfOk result (λ looked. (from ≤ looked.at) × (looked.at ≤ new.known))
+  pub none : ForBackward b (λ tables. IsOkAnd result (λ looked. MatchOption looked.found
+      (NoneFrom tables haystack span.end from looked.at)
+      (IsLeftmostMatch tables.search.query tables.search.ignore_case haystack (between from span.end))))
+  pub lies : IfOk result (λ looked. IfSome looked.found
+      (λ found. IsMatchBy b span from found × (found.start < looked.at) × (looked.at ≤ found.start + 1)))
   pub marked : ForBackward b (λ tables. AreMarked tables haystack span from numbers m
-      → IfOk result (λ at. AreMarked tables haystack span at numbers_new new))
-  pub placed : IfOk result (λ at. IsPlaced b.table.longest span at new)
+      → IfOk result (λ looked. AreMarked tables haystack span looked.at numbers_new new))
+  pub placed : IfOk result (λ looked. IsPlaced b.table.longest span looked.at new)
   pub known : IfOk result (λ _. from < new.known)
   pub further : (m.known ≤ new.known) × (new.known ≤ span.end)
   pub bounded : ScansThrice (between m.known new.known) old_counts counts

@@ -4,7 +4,7 @@ use Rattle.std.specs.Prelude.{◌-◌, IfSome}
 use Rattle.literal_base.specs.Counts.{Counts}
 use Rattle.literal_base.specs.Occurs.{between}
 use Rattle.literal_base.specs.declared.search.Span.{Span}
-use Rattle.literal_fingerprints.specs.CandidateScans.{StopsAtEach, ahead_of}
+use Rattle.literal_fingerprints.specs.CandidateScans.{IsScanFor, ahead_of}
 use Rattle.literal_fingerprints.specs.declared.candidates.CandidateScan.{CandidateScan}
 use Rattle.literal_search.specs.SearchValue.{first_part}
 use Rattle.literal_search.specs.Inside.Backward.{AreMarks, ForBackward, HasReadBack, IsMark, NoneFrom}
@@ -144,7 +144,7 @@ ahead_by (Some scan) = ahead_of scan
 -- the scan belongs to every search whose tables these are
 abbrev pub AreFor : Backward → Option CandidateScan → Type 0
 AreFor b scan = ForBackward b (λ tables. IfSome scan
-    (λ s. StopsAtEach s tables.search.ignore_case tables.search.query.patterns))
+    (λ s. IsScanFor s tables.search.ignore_case tables.search.query.patterns))
 
 -- the bytes that are looked up for the first offset in a span at which a pattern begins: at least those that a pattern
 -- there may have, or those of the span if there is none; and at most a multiple of those before it

@@ -2,7 +2,7 @@ use Rattle.std.proofs.Common.{◌%◌, ◌∙◌, ap, arith, drop}
 use Rattle.std.proofs.lemmas.List.{length-drop, take_all}
 use Rattle.literal_fingerprints.specs.FingerprintsValue.{fingerprints_in}
 use Rattle.literal_search.specs.Inside.Packed.{unpacked}
-use Rattle.literal_search.specs.Prepared.{pair_of, scan_by}
+use Rattle.literal_search.specs.Prepared.{scan_by, short_of}
 use Rattle.literal_search.proofs.lemmas.ScanNumbers.{same_scan}
 use Rattle.literal_search.proofs.prepared.scan_by.Goals as goal
 
@@ -10,7 +10,7 @@ pub returns : goal.returns
 unfolding scan_by
 returns c =
     let prints = c.args.prints.now in
-    same_scan _ _ _ _ _ _ (c.from_bytes.ensures ∙ ap fingerprints_in c.unpack.ensures)
-    (c.pair_by.ensures ∙ ap (λ n. pair_of (unpacked n))
-    (take_all 2 (drop 33 prints) (omega (arith, length-drop 33 prints, c.requires))))
-    (ap (λ n. n % 256) c.saturating_sub.ensures)
+    same_scan _ _ _ _ _ _ _ _ (c.from_bytes.ensures ∙ ap fingerprints_in c.unpack.ensures)
+    c.pair_by.ensures (ap (λ n. n % 256) c.saturating_sub.ensures)
+    (c.short_by.ensures ∙ ap (λ n. short_of (unpacked n))
+    (take_all 5 (drop 35 prints) (omega (arith, length-drop 35 prints, c.requires))))

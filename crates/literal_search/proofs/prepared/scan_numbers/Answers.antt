@@ -3,7 +3,7 @@ use Rattle.std.specs.Prelude.{MatchOption}
 use Rattle.std.specs.List.{repeat}
 use Rattle.literal_fingerprints.specs.FingerprintsValue.{fingerprints_in}
 use Rattle.literal_search.specs.Inside.Packed.{unpacked}
-use Rattle.literal_search.specs.Prepared.{pair_of, scan_by}
+use Rattle.literal_search.specs.Prepared.{pair_of, scan_by, short_of}
 use Rattle.literal_search.specs.declared.prepared.TheConstants.{SCAN_LEN}
 use Rattle.literal_search.proofs.lemmas.ScanNumbers.{scan_of}
 use Rattle.literal_search.proofs.prepared.scan_numbers.Goals as goal
@@ -11,15 +11,19 @@ use Rattle.literal_search.proofs.prepared.scan_numbers.Goals as goal
 pub returns : goal.returns
 returns c =
     let numbers = c.pack.new.numbers in
+    let middle = c.copy_from_slice-2.new.self in
     let behind = c.copy_from_slice.new.self in
     let long : length numbers ≡ 32 = ap (λ (l : List ℕ). length l) c.pack.ensures.packed in
-    let skipped = c.in-Some.scan.now.skipped in
-    let all = (skipped + 1) ∷ (numbers ++ (behind ++ [])) in
-    let pair : pair_of (unpacked (behind ++ [])) ≡ c.in-Some.scan.now.pair =
-    ap (λ n. pair_of (unpacked n)) (append-nil behind ∙ c.copy_from_slice.ensures.after) ∙ c.pair_numbers.ensures in
+    let scan = c.in-Some.scan.now in
+    let all = (scan.skipped + 1) ∷ (numbers ++ (middle ++ (behind ++ []))) in
+    let pair : pair_of (unpacked middle) ≡ scan.pair =
+    ap (λ n. pair_of (unpacked n)) c.copy_from_slice-2.ensures.after ∙ c.pair_numbers.ensures in
+    let short : short_of (unpacked (behind ++ [])) ≡ scan.short =
+    ap (λ n. short_of (unpacked n)) (append-nil behind ∙ c.copy_from_slice.ensures.after) ∙ c.short_numbers.ensures in
+    let two : length middle ≡ 2 = c.copy_from_slice-2.ensures.len in
     subst (λ o. MatchOption o (all ≡ repeat SCAN_LEN (0 ∷ []))
-    (λ s. (0 < skipped + 1) × (scan_by all ≡ s.now))) (sym c.in-Some.is) (
+    (λ s. (0 < scan.skipped + 1) × (scan_by all ≡ s.now))) (sym c.in-Some.is) (
       omega arith,
-      scan_of skipped numbers (behind ++ []) c.in-Some.scan.now.fingerprints c.in-Some.scan.now.pair (omega arith) long
-          (ap fingerprints_in c.pack.ensures.bytes ∙ c.to_bytes.ensures) pair,
+      scan_of scan.skipped numbers middle (behind ++ []) scan.fingerprints scan.pair scan.short (omega arith) long two
+          (ap fingerprints_in c.pack.ensures.bytes ∙ c.to_bytes.ensures) pair short,
     )

@@ -21,15 +21,15 @@ module _ (f : Header) (numbers : List ℕ) (same : f.numbers.now ≡ numbers) (h
   known : (end f ≡ classes_end numbers) × (length f.lengths.now ≡ get_or numbers 3 0)
   known = parts_end f numbers same header
 
-  has_parts : HasParts PREPARED_VERSION numbers → end f + 35 ≤ length numbers
+  has_parts : HasParts PREPARED_VERSION numbers → end f + 40 ≤ length numbers
       → length f.rows.now ≢ 256 → HasAllParts f.numbers.now
   has_parts parts long some = grind (arith, known, parts_end)
 
-  prints_are : slice_range numbers (end f) (end f + 35) ≡ prints_in numbers
-  prints_are = ap (λ k. slice_range numbers k (k + 35)) known.0
+  prints_are : slice_range numbers (end f) (end f + 40) ≡ prints_in numbers
+  prints_are = ap (λ k. slice_range numbers k (k + 40)) known.0
 
   -- why there are none
-  short : length numbers < end f + 35 → ¬ HasAllParts numbers
+  short : length numbers < end f + 40 → ¬ HasAllParts numbers
   short few parts = let fits = parts.fits in omega (arith, few, fits, known.0, known.1)
 
 pub returns : goal.returns
@@ -52,7 +52,7 @@ returns c =
         each = classes_long header;
         row = omega (arith, parts.row, known.0, known.1);
         few = omega (arith, told.1.few, known.1);
-        prints = length_part numbers (end f) (end f + 35) (omega arith)
+        prints = length_part numbers (end f) (end f + 40) (omega arith)
             (omega (arith, c.if-is_short.false)) ∙ omega arith;
       };
       is_for = λ search is. record {

@@ -6,6 +6,8 @@ use Rattle.literal_fingerprints.proofs.candidates.CandidateScan.new.Goals as goa
 
 pub returns-clause-stops : goal.returns-clause-stops
 returns-clause-stops c =
-    let patterns = map (λ (pattern : Vec ℕ). pattern.items) c.args.patterns.now in
-    subst (λ all. AllPass c.in_ok-fingerprints.fingerprints c.args.ignore_case all) (without_none patterns)
-    c.in_ok-fingerprints.ensures.pass
+    let patterns = map (λ (pattern : Vec ℕ). pattern.items) c.args.patterns.now in (
+      subst (λ all. AllPass c.in_ok-fingerprints.fingerprints c.args.ignore_case all) (without_none patterns)
+          c.in_ok-fingerprints.ensures.pass,
+      tt,
+    )

@@ -65,7 +65,8 @@ returns-then-passed-lt-LANES-clause-stops c =
         omega (arith, c.saturating_sub.ensures),
         has_earlier pair fm sm three apart offset c.requires.first c.requires.second c.requires.three
             c.requires.apart c.min.ensures haystack
-            start c.without_first.result lanes.0 passed c.if-passed-lt-LANES.true stops (lanes.1 passed c.if-passed-lt-LANES.true stops) before,
+            start c.without_first.result lanes.0 passed c.if-passed-lt-LANES.true stops
+            (lanes.1 passed c.if-passed-lt-LANES.true stops) before,
       ))
       | inr after ↦
           let place : start + passed - behind ≡ start + c.saturating_sub.result = omega (
@@ -75,7 +76,8 @@ returns-then-passed-lt-LANES-clause-stops c =
           inl (subst (λ n. HasPair pair haystack n) place
           (has_pair pair fm sm three apart offset c.requires.first c.requires.second c.requires.three
           c.requires.apart c.min.ensures haystack
-          start 16 start c.without_first.result lanes.0 (omega arith) passed c.if-passed-lt-LANES.true stops (omega arith)))
+          start 16 start c.without_first.result lanes.0 (omega arith) passed c.if-passed-lt-LANES.true stops
+          (omega arith)))
     ]
 
 pub loop-at-init : goal.loop-at-init

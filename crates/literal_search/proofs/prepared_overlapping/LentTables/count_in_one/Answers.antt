@@ -6,9 +6,8 @@ use Rattle.literal_base.specs.Counts.{Counts}
 use Rattle.literal_base.specs.Occurs.{between}
 use Rattle.literal_search.specs.Earliest.{ScansToEndWithin}
 use Rattle.literal_search.specs.Inside.Count.{HasCounted}
-use Rattle.literal_search.specs.Inside.LentTables.{AreFor, IsNextEnd, LiesAt, tables_by}
+use Rattle.literal_search.specs.Inside.LentTables.{IsNextEnd, LiesAt, tables_by}
 use Rattle.literal_search.specs.Inside.Position.{IsPosition}
-use Rattle.literal_search.specs.Overlapping.{OverlappingValue}
 use Rattle.literal_search.specs.declared.position.Position.{Position}
 use Rattle.literal_search.proofs.lemmas.Count.{counted_none, counted_some, position_after}
 use Rattle.literal_search.proofs.prepared_overlapping.LentTables.count_in_one.Goals as goal
