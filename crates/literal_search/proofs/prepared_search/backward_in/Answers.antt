@@ -1,11 +1,10 @@
-use Rattle.std.proofs.Common.{◌≡◌, ◌+◌, ◌<◌, ◌≤◌, ◌≢◌, ◌∙◌, ℕ, List, ap, arith, get_or, length, subst, sym}
+use Rattle.std.proofs.Common.{◌≡◌, ◌+◌, ◌≤◌, ◌≢◌, ◌∙◌, ℕ, List, ap, arith, get_or, length, subst, sym}
 use Rattle.std.specs.List.{slice_range}
 use Rattle.literal_search.specs.Inside.Packed.{unpacked}
 use Rattle.literal_search.specs.Inside.Prepared.{IsHeader}
 use Rattle.literal_search.specs.Prepared.{HasParts, classes_end, classes_in, lengths_in, longest_in, rows_in, width_in}
+use Rattle.literal_search.specs.Prepared.{AreBackTables, ArePrints, BackTables, HasAllParts, prints_in}
 use Rattle.literal_search.specs.SearchValue.{SearchValue}
-use Rattle.literal_search.specs.Prepared.{AreBackTables, ArePrints, BackTables, HasAllParts}
-use Rattle.literal_search.specs.Prepared.{prints_in}
 use Rattle.literal_search.specs.declared.prepared.Header.{Header}
 use Rattle.literal_search.specs.declared.prepared.TheConstants.{PREPARED_VERSION}
 use Rattle.literal_search.proofs.lemmas.BackTables.{same_tables}
@@ -27,10 +26,6 @@ module _ (f : Header) (numbers : List ℕ) (same : f.numbers.now ≡ numbers) (h
 
   prints_are : slice_range numbers (end f) (end f + 35) ≡ prints_in numbers
   prints_are = ap (λ k. slice_range numbers k (k + 35)) known.0
-
-  -- why there are none
-  short : length numbers < end f + 35 → ¬ HasAllParts numbers
-  short few parts = let fits = parts.fits in omega (arith, few, fits, known.0, known.1)
 
 pub returns : goal.returns
 returns c =

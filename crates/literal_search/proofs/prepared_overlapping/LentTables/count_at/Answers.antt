@@ -1,4 +1,4 @@
-use Rattle.std.proofs.Common.{◌<◌, ◌+◌, ◌^◌, ℕ, arith, get_or, inl, inr, length, min, subst}
+use Rattle.std.proofs.Common.{ℕ, arith, get_or, inl, inr, subst}
 use Rattle.literal_search.specs.Inside.Count.{IsWalk}
 use Rattle.literal_search.specs.Inside.LentTables.{tables_by}
 use Rattle.literal_search.proofs.lemmas.Count.{large_counts, large_inside, number_is, row_large, row_small}

@@ -1,4 +1,4 @@
-use Rattle.std.proofs.Common.{ap, arith, length, min}
+use Rattle.std.proofs.Common.{ap, arith, length}
 use Rattle.literal_search.specs.Inside.LentTables.{tables_by}
 use Rattle.literal_search.specs.Inside.Walk.{rows_by}
 use Rattle.literal_search.specs.declared.walk.Table.{Table}

@@ -6,25 +6,14 @@ use Rattle.literal_base.specs.Counts.{Counts}
 use Rattle.literal_base.specs.Occurs.{between}
 use Rattle.literal_search.specs.Earliest.{ScansToEndWithin}
 use Rattle.literal_search.specs.Inside.Count.{HasCounted}
-use Rattle.literal_search.specs.Inside.LentTables.{AreFor, IsNextEnd, LiesAt, tables_by}
+use Rattle.literal_search.specs.Inside.LentTables.{IsNextEnd, LiesAt, tables_by}
 use Rattle.literal_search.specs.Inside.Position.{IsPosition}
-use Rattle.literal_search.specs.Overlapping.{OverlappingValue}
 use Rattle.literal_search.specs.declared.position.Position.{Position}
 use Rattle.literal_search.proofs.lemmas.Count.{counted_none, counted_some, position_after}
 use Rattle.literal_search.proofs.prepared_overlapping.LentTables.count_in_one.Goals as goal
 
 pub returns-in_err-here-clause-prepared : goal.returns-in_err-here-clause-prepared
-returns-in_err-here-clause-prepared c = λ search are counted.
-    let p = tables_by search c.args.self.now in
-    let here = c.loop-end.counted in
-    let so_far = c.loop-end.invariant in
-    let many = ap (λ (l : List ℕ). length l) are.lengths ∙ length-map search.patterns (λ (bytes : List ℕ). length bytes)
-    in
-    absurd (c.in_err-here.ensures.prepared search are
-    (subst (λ (s : Position). IsPosition p c.args.haystack.now c.args.span s) (sym c.after_end-position.ensures)
-    (position_after p are.tables c.args.haystack.now (λ k. omega (arith, c.type_inv.haystack k)) c.args.span
-    c.requires.valid here.at here.row (length c.args.self.now.header.lengths.now) so_far.walking.after
-    so_far.walking.inside (so_far.counts search are counted).walk many)))
+returns-in_err-here-clause-prepared c = λ search are counted. grind (arith, length-map, position_after)
 
 pub returns-in_default-clause-prepared : goal.returns-in_default-clause-prepared
 returns-in_default-clause-prepared c = λ search are counted.

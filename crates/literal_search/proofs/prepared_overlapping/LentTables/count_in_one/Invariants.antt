@@ -1,4 +1,4 @@
-use Rattle.std.proofs.Common.{◌≡◌, ◌+◌, ◌-◌, ◌*◌, ◌≤◌, ◌<◌}
+use Rattle.std.proofs.Common.{◌≡◌, ◌+◌, ◌*◌, ◌≤◌}
 use Rattle.literal_search.specs.Inside.Count.{HasCounted, IsWalking}
 use Rattle.literal_search.specs.Inside.LentTables.{AreFor, tables_by}
 use Rattle.literal_search.specs.Overlapping.{OverlappingValue}

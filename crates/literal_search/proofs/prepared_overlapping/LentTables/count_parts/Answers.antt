@@ -1,4 +1,4 @@
-use Rattle.std.proofs.Common.{◌≡◌, ◌+◌, ◌-◌, ◌*◌, ◌∙◌, ◌^◌, ℕ, ap, arith, refl, subst}
+use Rattle.std.proofs.Common.{◌≡◌, ◌+◌, ◌*◌, ◌∙◌, ℕ, ap, arith, refl, subst}
 use Rattle.literal_base.specs.Counts.{Counts}
 use Rattle.literal_search.specs.Inside.Count.{IsWalk}
 use Rattle.literal_search.specs.Inside.LentTables.{tables_by}
@@ -7,17 +7,7 @@ use Rattle.literal_search.proofs.lemmas.Leftmost.{one_more}
 use Rattle.literal_search.proofs.prepared_overlapping.LentTables.count_parts.Goals as goal
 
 pub loop-step-init : goal.loop-step-init
-loop-step-init c =
-    let sum : c.args.tally.now.scanned ≡ c.args.tally.now.scanned + 4 * 0 = omega arith in
-    record {
-      rows = c.requires.rows;
-      walks = λ search are after. (
-        after,
-        none_yet search c.args.haystack.now c.args.span c.args.from.at c.args.part c.args.from.count,
-      );
-      few = omega arith;
-      counted = ap (λ (n : ℕ). let n' : Counts = record c.args.tally.now { scanned = n } in n') sum;
-    }
+loop-step-init c = grind (arith, none_yet)
 
 pub returns-in_err-first-clause-prepared : goal.returns-in_err-first-clause-prepared
 returns-in_err-first-clause-prepared c = λ search are counted walks.

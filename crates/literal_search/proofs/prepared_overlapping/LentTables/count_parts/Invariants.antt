@@ -1,5 +1,5 @@
 use Rattle.std.proofs.Common.{◌≡◌, ◌+◌, ◌-◌, ◌*◌, ◌≤◌, ◌^◌}
-use Rattle.literal_search.specs.Inside.Count.{AreAfter, CountFour, HasCounted}
+use Rattle.literal_search.specs.Inside.Count.{AreAfter, CountFour}
 use Rattle.literal_search.specs.Inside.LentTables.{AreFor, tables_by}
 use Rattle.literal_search.specs.Inside.Leftmost.{HaveRows}
 use Rattle.literal_search.specs.Overlapping.{OverlappingValue}

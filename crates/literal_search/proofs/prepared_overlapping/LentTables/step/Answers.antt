@@ -1,4 +1,4 @@
-use Rattle.std.proofs.Common.{ℕ, ◌%◌, ◌^◌, arith, get_or, min, refl, subst, sym}
+use Rattle.std.proofs.Common.{ℕ, ◌%◌, ◌^◌, arith, get_or, refl, subst, sym}
 use Rattle.literal_search.specs.Inside.Count.{IsWalk}
 use Rattle.literal_search.specs.Inside.LentTables.{tables_by}
 use Rattle.literal_search.proofs.lemmas.Count.{number_is, walk_next}

@@ -1,6 +1,5 @@
 use Rattle.std.proofs.Common.{◌≡◌, ◌+◌, ◌-◌, ◌<◌, ◌∙◌, ◌++◌, ℕ, List, ap, arith, get_or, inl, inr, length, refl, subst}
-use Rattle.std.proofs.Common.{sym}
-use Rattle.std.proofs.Common.{slice_range}
+use Rattle.std.proofs.Common.{sym, slice_range}
 use Rattle.literal_base.specs.Counts.{Counts}
 use Rattle.literal_search.specs.Automaton.{IsStateAfter}
 use Rattle.literal_search.specs.PreparedOverlapping.{tables_in}
@@ -14,15 +13,7 @@ returns-in_err-row-clause-prepared c = λ search prepared text is.
     absurd (c.in_err-row.ensures (has_row (tables_in search c.args.self.now) prepared.tables text c.args.state is))
 
 pub loop-at-init : goal.loop-at-init
-loop-at-init c =
-    let none : c.args.tally.now.scanned ≡ c.args.tally.now.scanned + (c.args.span.start - c.args.span.start) =
-    omega arith in
-    record {
-      within = grind arith;
-      walks = λ search prepared text is. walks_none (tables_in search c.args.self.now) prepared.tables text
-          c.args.haystack.now c.args.span.start c.args.state c.in_ok-row.row is c.in_ok-row.ensures.0;
-      counted = ap (λ (n : ℕ). let t : Counts = record c.args.tally.now { scanned = n } in t) none;
-    }
+loop-at-init c = grind (arith, walks_none)
 
 pub returns-in_err-_row-clause-prepared : goal.returns-in_err-_row-clause-prepared
 returns-in_err-_row-clause-prepared c = λ search prepared text is.

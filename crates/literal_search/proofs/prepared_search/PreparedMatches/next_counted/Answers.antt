@@ -1,8 +1,7 @@
 use Rattle.std.proofs.Common.{◌≤◌, ℕ, ap, arith, subst, sym}
 use Rattle.literal_search.specs.Inside.Backward.{AreMarked, IsAhead}
 use Rattle.literal_search.specs.MatchesValue.{GivesMatch, MatchesValue, offset_at_end}
-use Rattle.literal_search.specs.Prepared.{BackTables, IsPrepared, PreparedMatchesValue}
-use Rattle.literal_search.specs.Prepared.{back_tables_in, matches_for}
+use Rattle.literal_search.specs.Prepared.{BackTables, IsPrepared, PreparedMatchesValue, back_tables_in, matches_for}
 use Rattle.literal_search.specs.declared.backward.TheConstants.{LEAST}
 use Rattle.literal_search.proofs.lemmas.Prepared.{some_by}
 use Rattle.literal_search.proofs.prepared_search.PreparedMatches.next_counted.Goals as goal

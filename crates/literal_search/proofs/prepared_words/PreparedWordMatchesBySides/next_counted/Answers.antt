@@ -53,9 +53,4 @@ returns-in-Ok-clause-prepared c = λ search given longest.
     })
 
 pub returns-in-Err-clause-prepared : goal.returns-in-Err-clause-prepared
-returns-in-Err-clause-prepared c = λ search given longest.
-    let m = c.self.inside in
-    let is = subst (λ (v : PreparedWordMatchesBySidesValue). IsPrepared search v.matches.words.numbers) (sym
-    c.self.view_is)
-    given in
-    for_prepared m.prepared.now m.words c.self.invariant.0 (λ _. ⊥) c.in-Err.ensures.leftmost search is longest
+returns-in-Err-clause-prepared c = λ search given longest. grind (arith, for_prepared)

@@ -37,16 +37,6 @@ returns-in_err-extend_from_slice-3-clause-error c =
     (omega (arith, c.in_err-extend_from_slice-3.ensures.full, c.loop-found.text.ok)) in
     search (rules, refused)
 
-pub loop-found-init : goal.loop-found-init
-loop-found-init c = record {
-  done = [];
-  run = ap (λ m. (m, c.args.tally.now)) (sym c.find_iter_in-matches.ensures);
-  written = grind arith;
-  others = refl;
-  known = grind arith;
-  scanned = λ _. grind arith;
-}
-
 pub loop-found-preserved : goal.loop-found-preserved
 loop-found-preserved c =
     let so_far = c.loop-found.invariant in
