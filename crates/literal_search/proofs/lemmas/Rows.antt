@@ -1,6 +1,6 @@
 -- Rows before the classes, and those where there is no pattern.
 use Rattle.std.proofs.Common.{◌≡◌, ◌+◌, ◌*◌, ◌-◌, ◌<◌, ◌≤◌, ℕ, suc, zero, Bool, List, [], ◌∷◌, ◌++◌, ap, arith}
-use Rattle.std.proofs.Common.{◌⊎◌, true, get_or, inl, length, min, refl}
+use Rattle.std.proofs.Common.{get_or, length, min, refl}
 use Rattle.std.proofs.lemmas.List.{get_or_past, length-take}
 use Rattle.std.specs.List.{count_by, range_with_len, repeat}
 use Rattle.std.specs.Option.{unwrap_or}
@@ -9,7 +9,7 @@ use Rattle.literal_search.specs.Inside.Classes.{AreClasses}
 use Rattle.literal_search.specs.Inside.Rows.{rows_of}
 use Rattle.literal_search.specs.States.{AreStates, HasTooManyStates, IsRowsLength}
 use Rattle.literal_search.specs.Table.{LeadsTo, Recognises, nothing}
-use Rattle.literal_search.specs.Words.{begins_one, ending, live_suffix, word_of}
+use Rattle.literal_search.specs.Words.{ending, live_suffix, word_of}
 use Rattle.literal_search.proofs.lemmas.States.{few_states}
 
 -- how many they are
@@ -80,11 +80,6 @@ none_long = (
   },
   refl,
 )
-  where
-    begun : (k : ℕ) (d : List ℕ) → k < 1
-        → (get_or ([] ∷ []) k d ≡ []) ⊎ (begins_one [] (get_or ([] ∷ []) k d) ≡ true)
-    begun zero d first = inl refl
-    begun (suc k) d first = absurd (omega (arith, first))
 
 pub none_few : HasTooManyStates [] 1 → ⊥
 none_few many = grind (arith, one_state)

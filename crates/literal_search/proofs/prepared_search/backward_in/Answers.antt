@@ -43,13 +43,7 @@ returns c =
     (rows_are header ∙ ap rows_in told.0) (header.longest_is ∙ ap longest_in told.0) in
     record {
       parts = parts;
-      safe = record {
-        each = classes_long header;
-        row = omega (arith, parts.row, known.0, known.1);
-        few = omega (arith, told.1.few, known.1);
-        prints = length_part numbers (end f) (end f + 35) (omega arith)
-            (omega (arith, c.if-is_short.false)) ∙ omega arith;
-      };
+      safe = grind (arith, classes_long, known, length_part);
       is_for = λ search is. record {
         tables = subst (λ (t : BackTables). AreBackTables t) (sym (tables search)) is.tables;
         lens = header.lengths_are ∙ (ap lengths_in told.0 ∙ is.lengths);

@@ -1,4 +1,4 @@
-use Rattle.std.proofs.Common.{◌≡◌, ◌∙◌, IfErr, IfOk, List, ap, arith, length, map, subst, sym, ℕ}
+use Rattle.std.proofs.Common.{◌≡◌, ◌∙◌, IfErr, IfOk, List, arith, length, map, subst, ℕ}
 use Rattle.std.proofs.lemmas.List.{length-map}
 use Rattle.std.proofs.lemmas.List.FromFn.{get_or-range_with_len, length-range_with_len}
 use Rattle.std.specs.Global.{Vec}
@@ -18,8 +18,7 @@ texts_are : (classes : List ℕ) (patterns : List (Vec ℕ)) (lent numbers : Lis
 texts_are classes patterns lent numbers same are =
     let items = λ (pattern : Vec ℕ). pattern.items in
     let count = length-map (map items patterns) (symbols_in classes) ∙ length-map patterns items in
-    ap (chosen_by (texts_by classes patterns)) (same ∙ (are ∙ ap (range_with_len 0) (sym count)))
-    ∙ all_chosen (texts_by classes patterns)
+    grind (arith, all_chosen)
 
 pub chosen_rows-requires-clause-few : goal.chosen_rows-requires-clause-few
 chosen_rows-requires-clause-few c = grind (arith, length-range_with_len)

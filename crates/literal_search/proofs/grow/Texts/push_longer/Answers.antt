@@ -17,8 +17,7 @@ loop-index-preserved c =
     let said = c.in_ok-push_if_longer.ensures in
     let read = c.index-pattern.ensures ∙ so_far.kept index x (omega (arith, before, c.requires.inside)) in
     let long = so_far.long in
-    let more : length c.loop-index.lists.items ≤ length c.push_if_longer.new.lists.items =
-    longer_long _ _ _ said.lists in
+    let more : length c.loop-index.lists.items ≤ length c.push_if_longer.new.lists.items = grind (arith, longer_long) in
     let n = length c.args.self.now.patterns.now in
     record {
       lists =

@@ -1,4 +1,4 @@
-use Rattle.std.proofs.Common.{[], ◌≡◌, ◌+◌, ◌*◌, ◌<◌, ◌∙◌, ◌^◌, ℕ, List, ap, arith, get_or, length, subst, suc, sym}
+use Rattle.std.proofs.Common.{[], ◌≡◌, ◌+◌, ◌*◌, ◌<◌, ◌^◌, ℕ, List, ap, arith, get_or, length, subst, suc, sym}
 use Rattle.std.proofs.Common.{zero}
 use Rattle.literal_base.specs.Counts.{Counts}
 use Rattle.literal_search.specs.Inside.Classes.{AreClasses}
@@ -58,11 +58,7 @@ loop-step-preserved c =
           (byte (at + step + 3 * block)) c.loop-step.fourth c.next_at-fourth.result (so_far.fourth are)
           (c.next_at-fourth.ensures.number are)
           (omega (arith, c.if-fourth-limit.false, c.requires.limit));
-      counted = c.next_at-fourth.ensures.ticks
-          ∙ (one_more _ _ (c.next_at-third.ensures.ticks
-          ∙ one_more _ _ (c.next_at-second.ensures.ticks
-          ∙ one_more _ _ (c.next_at-first.ensures.ticks ∙ one_more _ _ so_far.counted)))
-          ∙ ap (λ (n : ℕ). let n' : Counts = record c.args.tally.now { scanned = n } in n') sum);
+      counted = grind (arith, one_more);
     }
 
 -- all of one of the spans
