@@ -1,16 +1,14 @@
 -- States of an automaton after a text, and which patterns end there.
 use Rattle.std.proofs.lemmas.Grind.{get_or_default_zero}
-use Rattle.std.proofs.Common.{◌≡◌, ◌⊎◌, ℕ, ◌+◌, ◌-◌, ◌*◌, ◌<◌, ◌≤◌, ◌^◌, List, [], ◌∷◌, ◌++◌, length, get_or}
-use Rattle.std.proofs.Common.{Bool, Option, None, Some, inl, inr, ap, arith, drop, length-append, refl, subst}
-use Rattle.std.proofs.Common.{sym, ◌∙◌}
+use Rattle.std.proofs.Common.{◌≡◌, ◌⊎◌, ℕ, ◌+◌, ◌-◌, ◌*◌, ◌<◌, ◌≤◌, ◌^◌, List, [], ◌∷◌, ◌++◌, length, get_or, Bool}
+use Rattle.std.proofs.Common.{Option, None, Some, inl, inr, ap, arith, length-append, refl, subst, sym, ◌∙◌}
 use Rattle.std.proofs.Math.Seq.{get_or-append_seam}
 use Rattle.std.proofs.lemmas.Bool.{cases_lt}
 use Rattle.std.proofs.lemmas.List.{drop-drop, drop-take, get_or-drop, get_or-take, get_or_append_left, get_or_past}
-use Rattle.std.proofs.lemmas.List.{length-map}
-use Rattle.std.proofs.lemmas.List.{map-append, take-take, take_all}
+use Rattle.std.proofs.lemmas.List.{length-map, map-append, take-take, take_all}
 use Rattle.std.specs.List.{slice_range}
 use Rattle.std.specs.Option.{unwrap_or}
-use Rattle.literal_base.specs.Occurs.{IsValidSpan, NoneIsEmpty, between, case_folded, pattern_at, whole_of}
+use Rattle.literal_base.specs.Occurs.{IsValidSpan, NoneIsEmpty, between, pattern_at, whole_of}
 use Rattle.literal_search.specs.Automaton.{AreAtEnd, EndsText, IsStateAfter, OccursAtEnd}
 use Rattle.literal_search.specs.Inside.Classes.{symbols_in}
 use Rattle.literal_search.specs.Inside.Suffixes.{AreSuffixes, IsFirstSuffix, IsSuffix}
@@ -27,15 +25,7 @@ use Rattle.literal_search.proofs.lemmas.Walk.{ends_at, leads_on, row_fits}
 
 -- the state before any text
 pub starts_empty : (t : Tables) → IsStateAfter t [] 0
-starts_empty t = record {
-  bytes = λ i. omega arith;
-  leads = λ recognises. record {
-    state = 0;
-    is_state = recognises.some;
-    word_is = recognises.root;
-    code_is = omega arith;
-  };
-}
+starts_empty t = grind arith
 
 bytes_more : (text : List ℕ) (byte : ℕ) → ((i : ℕ) → get_or text i 0 < 256) → byte < 256
     → (i : ℕ) → get_or (text ++ byte ∷ []) i 0 < 256
@@ -202,16 +192,10 @@ module _ (t : Tables) (are : AreTables t) (text : List ℕ) (state : ℕ) (is : 
         long = length_part t.ends from (get_or t.starts (longest + 1) 0) list_ordered list_inside
 
         at : (k d : ℕ) → k < length part → get_or part k d ≡ get_or t.ends (from + k) 0
-        at k d below =
-            get_or_default_zero part k d below
-            ∙ (get_or-take (get_or t.starts (longest + 1) 0 - from) (drop from t.ends) k 0 (omega (arith, long, below))
-            ∙ get_or-drop from t.ends k 0)
+        at k d below = grind (arith, get_or-drop, get_or-take, get_or_default_zero, long)
 
         of_text : (i : ℕ) → IsSuffix (texts_in t) (pattern_at (texts_in t) longest) i → IsSuffix (texts_in t) symbols i
-        of_text i end = record {
-          is_pattern = end.is_pattern;
-          ends = ends_on symbols (pattern_at (texts_in t) longest) _ is_first.is.ends end.ends;
-        }
+        of_text i end = grind (arith, ends_on, is_first)
 
 -- What occurs at the end of a part of a haystack.
 module _ (patterns : List (List ℕ)) (ignore_case : Bool) (haystack : List ℕ) (from at : ℕ) (ordered : from ≤ at)
@@ -231,18 +215,7 @@ module _ (patterns : List (List ℕ)) (ignore_case : Bool) (haystack : List ℕ)
 
     pub in_haystack : (i : ℕ) → OccursAtEnd patterns ignore_case text (whole_of text) i
         → OccursAtEnd patterns ignore_case haystack (between from at) i
-    in_haystack i (start, o, whole) =
-        let within : from + start + length (pattern_at patterns i) ≡ at = omega (arith, whole, long_text) in (
-          from + start,
-          record {
-            is_pattern = o.is_pattern;
-            after_start = omega arith;
-            before_end = omega arith;
-            same = ap (case_folded ignore_case) (sym (same_part start (length (pattern_at patterns i)) (omega arith)))
-                ∙ o.same;
-          },
-          within,
-        )
+    in_haystack i (start, o, whole) = grind (arith, at, long_text, same_part)
 
     pub in_part : (i : ℕ) → OccursAtEnd patterns ignore_case haystack (between from at) i
         → OccursAtEnd patterns ignore_case text (whole_of text) i
@@ -255,18 +228,11 @@ module _ (patterns : List (List ℕ)) (ignore_case : Bool) (haystack : List ℕ)
             is_pattern = o.is_pattern;
             after_start = omega arith;
             before_end = omega arith;
-            same = ap (case_folded ignore_case)
-                (same_part (start - from) (length (pattern_at patterns i)) (omega (arith, whole))
-                ∙ ap (λ k. slice_range haystack k (k + length (pattern_at patterns i))) start_is)
-                ∙ o.same;
+            same = grind (arith, same_part);
           },
           within,
         )
 
     pub all_in_haystack : (all : List ℕ) → AreAtEnd patterns ignore_case text (whole_of text) all
         → AreAtEnd patterns ignore_case haystack (between from at) all
-    all_in_haystack all are = record {
-      ascend = are.ascend;
-      each = λ k d below. in_haystack _ (are.each k d below);
-      every = λ i ends. are.every i (in_part i ends);
-    }
+    all_in_haystack all are = grind (arith, in_haystack, in_part)

@@ -1,22 +1,16 @@
 -- The tables of a search from the right, in a `Search` and in an array that is lent.
-use Rattle.std.proofs.Common.{◌≡◌, ◌∙◌, ◌+◌, ◌≤◌, ◌^◌, ℕ, List, [], ap, arith}
-use Rattle.std.proofs.Common.{length, refl, subst, sym}
-use Rattle.std.specs.List.{slice_range}
+use Rattle.std.proofs.Common.{◌≡◌, ◌∙◌, ◌+◌, ◌≤◌, ◌^◌, ℕ, List, [], ap, arith, length, subst, sym, ◌*◌, get_or}
+use Rattle.std.proofs.Common.{inl, inr, map}
 use Rattle.std.proofs.lemmas.Bool.{cases_lt}
 use Rattle.std.proofs.lemmas.List.{get_or_default, length-map}
-use Rattle.std.proofs.Common.{◌*◌, get_or, inl, inr, map}
 use Rattle.literal_base.specs.Occurs.{pattern_at}
 use Rattle.literal_search.specs.Inside.Classes.{symbols_in}
 use Rattle.literal_search.specs.Inside.Search.{AreKept}
 use Rattle.literal_search.specs.Inside.Prepared.{numbers_for}
-use Rattle.literal_search.specs.SearchValue.{reversed}
-use Rattle.literal_search.specs.Prepared.{AreShort, classes_end, rows_at, rows_end, rows_in}
-use Rattle.literal_search.specs.SearchValue.{width_for}
+use Rattle.literal_search.specs.SearchValue.{reversed, width_for, SearchValue}
+use Rattle.literal_search.specs.Prepared.{AreShort, classes_end, rows_at, rows_end, rows_in, AreBackTables, BackTables}
+use Rattle.literal_search.specs.Prepared.{IsPrepared, ArePrints, TakesPlaces, prepared_len, prints_in, texts_back}
 use Rattle.literal_search.specs.Table.{stride_of}
-use Rattle.literal_search.specs.Prepared.{AreBackTables, BackTables, IsPrepared}
-use Rattle.literal_search.specs.Prepared.{ArePrints, TakesPlaces, prepared_len, prints_in}
-use Rattle.literal_search.specs.Prepared.{texts_back}
-use Rattle.literal_search.specs.SearchValue.{SearchValue}
 use Rattle.literal_search.specs.States.{HasTooManyStates, IsRowsLength}
 use Rattle.literal_search.specs.declared.prepared.TheConstants.{SCAN_LEN, PREPARED_VERSION}
 use Rattle.literal_search.proofs.lemmas.Numbers.{check_written, classes_written, ends_written, lengths_written}
@@ -60,9 +54,7 @@ module _ (t : BackTables) (are : AreBackTables t) (prints : List ℕ) (long : le
     prints_are =
         let from : classes_end all_of ≡ classes_end all_of + 0 = omega arith in
         let to : prepared_len all_of ≡ classes_end all_of + 0 + length prints = omega (arith, long) in
-        ap (λ k. slice_range all_of k (prepared_len all_of)) from
-        ∙ ap (slice_range all_of (classes_end all_of + 0)) to
-        ∙ ends_written PREPARED_VERSION t.classes t.width t.search.query.patterns t.rows [] prints
+        grind (arith, ends_written)
 
     pub prepared_all : IsPrepared t.search all_of
     prepared_all =
@@ -72,18 +64,11 @@ module _ (t : BackTables) (are : AreBackTables t) (prints : List ℕ) (long : le
         (at_start (texts_back t) t.width t.rows are.recognises) in
         record {
           whole = record {
-            parts = record {
-              parts = record { version_is = refl; few = are.kept.few; fits = omega (arith, size) };
-              fits = omega (arith, size, long);
-              row = omega (arith, first.fits);
-            };
+            parts = grind (arith, size);
             check = check_written PREPARED_VERSION t.classes t.width t.search.query.patterns t.rows [] prints
                 (prepared_len all_of) (omega (arith, size, long));
           };
-          tables = subst (λ (b : BackTables). AreBackTables b) (same_tables t.search t.classes _ t.width _ t.rows _
-              t.longest _ (sym classes) refl
-              (sym (rows_written PREPARED_VERSION t.classes t.width t.search.query.patterns t.rows [] prints))
-              are.longest) are;
+          tables = grind (arith, rows_written, same_tables);
           lengths = lengths_written PREPARED_VERSION t.classes t.width t.search.query.patterns t.rows [] prints;
           prints = subst (ArePrints t.search.query.patterns t.search.ignore_case) (sym prints_are) pass;
         }

@@ -1,7 +1,5 @@
 -- What an automaton is built of, and why one is not built.
-use Rattle.std.proofs.Common.{arith}
-use Rattle.std.proofs.Common.{◌≡◌, ◌∙◌, ℕ, Bool, List, Result, Ok, Err, IfErr, ap, map}
-use Rattle.std.proofs.Common.{sym}
+use Rattle.std.proofs.Common.{arith, ◌≡◌, ◌∙◌, ℕ, Bool, List, Result, Ok, Err, IfErr, map, sym}
 use Rattle.std.proofs.lemmas.Simd.{map-map}
 use Rattle.std.specs.Global.{Global}
 use Rattle.std.specs.Result.{IsErrAnd}
@@ -15,9 +13,7 @@ use Rattle.literal_search.specs.declared.grow.GrowError.TheVariants as grow_erro
 pub same_texts : (classes : List ℕ) (lent patterns : List (Vec ℕ Global)) → lent ≡ patterns
     → map (λ (pattern : Vec ℕ Global). symbols_in classes pattern.items) lent
     ≡ map (symbols_in classes) (map (λ (pattern : Vec ℕ Global). pattern.items) patterns)
-same_texts classes lent patterns same =
-    ap (map (λ (pattern : Vec ℕ Global). symbols_in classes pattern.items)) same
-    ∙ sym (map-map (symbols_in classes) (λ (pattern : Vec ℕ Global). pattern.items) patterns)
+same_texts classes lent patterns same = grind (arith, map-map)
 
 -- what holds in classes that were made for patterns
 pub holds_in : (P : List (List ℕ) → ℕ → Type 0) (ignore_case : Bool) (classes : List ℕ) (width : ℕ)

@@ -1,15 +1,15 @@
 -- What callers take from this crate beside its contracts and laws: what an automaton was built of, and iterations over
 -- matches. For callers.
-use Rattle.std.proofs.Common.{◌≡◌, ◌↔◌, ◌+◌, ◌<◌, ◌≤◌, ◌++◌, ℕ, Bool, List, [], ◌∷◌, length, map, take}
-use Rattle.std.proofs.Common.{Option, None, Some, Ok, Result, append-nil, append_assoc, refl, slice_range, sym, ap}
-use Rattle.std.proofs.Common.{◌∙◌, arith, get_or, subst}
+use Rattle.std.proofs.Common.{◌≡◌, ◌↔◌, ◌+◌, ◌<◌, ◌≤◌, ◌++◌, ℕ, Bool, List, [], ◌∷◌, length, map, take, Option, None}
+use Rattle.std.proofs.Common.{Some, Ok, Result, append-nil, append_assoc, refl, slice_range, sym, ap, ◌∙◌, arith}
+use Rattle.std.proofs.Common.{get_or, subst, cond, inl, inr, suc, true, zero, ⊎_elim}
 use Rattle.std.specs.Bool.{IsTrue, ⊤}
 use Rattle.std.specs.Borrow.{Bor, MutBor}
 use Rattle.std.specs.Fn.{Called}
 use Rattle.std.specs.Global.{Vec}
 use Rattle.std.specs.Iterator.{AlwaysYields, Yields}
 use Rattle.std.specs.Iterator.Adapters.{map_callee, map_source}
-use Rattle.std.specs.List.{FoldsTo}
+use Rattle.std.specs.List.{FoldsTo, IsAmong, filter}
 use Rattle.std.specs.Slice.Iter.{iter_rest, iter_steps}
 use Rattle.std.specs.declared.alloc.AllocError.{AllocError}
 use Rattle.std.specs.declared.iter.Map.{Map}
@@ -23,32 +23,27 @@ use Rattle.literal_base.specs.declared.packed.MatchKind.{MatchKind}
 use Rattle.literal_base.specs.Greedy.{IsGreedy, IsGreedyIn}
 use Rattle.literal_base.specs.Leftmost.{IsLeftmost, IsLeftmostMatch}
 use Rattle.literal_base.specs.MatchValue.{MatchValue}
-use Rattle.literal_base.specs.Occurs.{NoneIsEmpty, NothingOccurs, Occurs, between, pattern_at, rest_from, whole_of}
+use Rattle.literal_base.specs.Occurs.{NothingOccurs, Occurs, between, pattern_at, rest_from, whole_of}
 use Rattle.literal_base.proofs.lemmas.Callers.{GivesList}
 use Rattle.literal_search.specs.SearchValue.{BuildsSearch, SearchValue, GivesAll, GivesNext, NeedTooManyStates}
-use Rattle.literal_search.specs.SearchValue.{search_by}
+use Rattle.literal_search.specs.SearchValue.{search_by, MayRefuseList, NeedTooManyReversed, RefusesSearch, longest_of}
 use Rattle.literal_search.specs.RefusedList.{RefusesPatterns}
-use Rattle.literal_search.specs.SearchValue.{MayRefuseList, NeedTooManyReversed, RefusesSearch}
 use Rattle.literal_search.specs.declared.BuildError.{BuildError}
 use Rattle.literal_search.specs.declared.BuildError.TheVariants.{EmptyPattern, OutOfMemory, TooManyPatterns}
 use Rattle.literal_search.specs.declared.BuildError.TheVariants.{TooManyStates}
 use Rattle.literal_search.specs.Automaton.{AreAtEnd, EndsText, IsStateAfter}
 use Rattle.literal_search.specs.MatchesValue.{GivesMatch, GivesThen, MatchesValue}
-use Rattle.literal_search.specs.Overlapping.{BuildsOverlapping, OverlappingValue}
+use Rattle.literal_search.specs.Overlapping.{BuildsOverlapping, OverlappingValue, AreAllThat, ComesBefore, IsOccurrence}
+use Rattle.literal_search.specs.Overlapping.{IsOverlapping}
 use Rattle.literal_search.specs.PreparedOverlapping.{Tables, overlapping_value}
 use Rattle.literal_search.specs.Replaced.{IsReplaced, IsWritten, WritesMatch, WritingValue, replaced, replaced_by}
-use Rattle.literal_search.specs.States.{HasTooManyStates}
 use Rattle.literal_search.proofs.lemmas.Automaton.{all_in_haystack, in_haystack, in_part}
 use Rattle.literal_search.proofs.lemmas.Rows.{none_few, one_class}
 use Rattle.literal_search.proofs.lemmas.Walk.{slice_push}
-use Rattle.std.specs.List.{IsAmong, filter}
-use Rattle.std.proofs.Common.{cond, inl, inr, suc, true, zero, ⊎_elim}
 use Rattle.std.proofs.lemmas.Bool.{cases_Bool}
 use Rattle.std.proofs.lemmas.List.Elements.{All-filter, filter_passes}
 use Rattle.std.proofs.lemmas.List.Kept.{AllPairs-filter}
 use Rattle.literal_base.specs.declared.search.Span.{Span}
-use Rattle.literal_search.specs.Overlapping.{AreAllThat, ComesBefore, IsOccurrence, IsOverlapping}
-use Rattle.literal_search.specs.SearchValue.{longest_of}
 use Rattle.literal_search.proofs.lemmas.Longest.{longest_is}
 
 -- whichever iterator the given value becomes, that gives references to these byte strings and ends
@@ -79,8 +74,7 @@ module _ {U T : Type 0} {becomes : U → T → Type 0} {steps : T → Option (Bo
     {list : List (List ℕ)} (gives : GivesBytes becomes steps given list) where
   -- all the items are the list
   pub all_given : {patterns : List (List ℕ)} → GivesAll becomes steps given patterns → patterns ≡ list
-  all_given all =
-      all.4 ∙ items_from_drains all.1 (all.3.1.0, all.3.1.1, λ _. (all.3.0, all.3.1.2)) (gives.each all.0 all.2)
+  all_given all = grind (arith, items_from_drains)
 
   -- the items before one of them are the first of the list, and it is the next
   pub next_given : {patterns : List (List ℕ)} {next : List ℕ} → GivesNext becomes steps given patterns next
@@ -88,27 +82,16 @@ module _ {U T : Type 0} {becomes : U → T → Type 0} {steps : T → Option (Bo
   next_given {patterns} {next} one =
       let all = gives.each one.iterator one.is_iterator in
       let turn = YieldsList-turn all one.items one.before one.gave (Some one.item) one.after one.item refl one.gives in
-      let count : length patterns ≡ length one.items =
-      ap (λ (l : List (List ℕ)). length l) one.patterns_are ∙ length-map one.items (λ p. p.now) in
+      let count : length patterns ≡ length one.items = grind (arith, length-map) in
       let so_far = YieldsList-so_far all one.items one.before one.gave in
-      record {
-        are = one.patterns_are ∙ so_far ∙ ap (λ n. take n list) (sym count);
-        within = omega (arith, turn.0, count);
-        next_is =
-            one.next_is ∙ turn.1 ∙ ap (λ n. get_or list n one.item.now) (sym count)
-            ∙ get_or_default list (length patterns) one.item.now [] (omega (arith, turn.0, count));
-      }
+      grind (arith, get_or_default)
 
   -- an error of what is built of them says why the list is refused
   pub refuses_patterns : (NeedTooMany : List (List ℕ) → Type 0) (error : BuildError)
       → RefusesSearch becomes steps given NeedTooMany error → RefusesPatterns NeedTooMany list error
   refuses_patterns NeedTooMany (EmptyPattern number) (patterns, next, one, empty, is) =
       let on = next_given one in
-      let here : number ≡ length patterns = is in (
-        omega (arith, on.within, here),
-        ap (λ n. length (pattern_at list n)) here ∙ ap (λ (l : List ℕ). length l) (sym on.next_is) ∙ empty,
-        subst NoneIsEmpty (on.are ∙ ap (λ n. take n list) (sym here)) one.can_be_kept.some,
-      )
+      grind arith
   refuses_patterns NeedTooMany OutOfMemory (inl one) = let on = next_given one.2 in omega (arith, on.within)
   refuses_patterns NeedTooMany OutOfMemory (inr all) =
       let is = all_given all.1 in omega (arith, all.2, ap (λ (l : List (List ℕ)). length l) is)
@@ -161,15 +144,8 @@ module _ {U T : Type 0} {becomes : U → T → Type 0} {steps : T → Option (Bo
 pub greedy_after : (m : MatchesValue) (all more : List MatchValue) (n : MatchesValue) → Yields GivesMatch m all n
     → IsGreedyIn n.search.query n.search.ignore_case n.haystack (between n.at n.span.end) more
     → IsGreedyIn m.search.query m.search.ignore_case m.haystack (between m.at m.span.end) (all ++ more)
-greedy_after m [] more n stays greedy =
-    subst (λ (it : MatchesValue). IsGreedyIn it.search.query it.search.ignore_case it.haystack
-    (between it.at it.span.end) more) (sym stays) greedy
-greedy_after m (found ∷ rest) more n run greedy = (
-  run.1.leftmost,
-  subst (λ (it : MatchesValue). IsGreedyIn it.search.query it.search.ignore_case it.haystack
-      (between it.at it.span.end) (rest ++ more))
-      run.1.goes_on (greedy_after run.0 rest more n run.2 greedy),
-)
+greedy_after m [] more n stays greedy = grind arith
+greedy_after m (found ∷ rest) more n run greedy = grind (arith, greedy_after run.0 rest more n run.2 greedy)
 
 -- so what it gives up to its end is the greedy list
 pub greedy_from_yields : (m : MatchesValue) (all : List MatchValue) (n o : MatchesValue) → Yields GivesMatch m all n
@@ -205,34 +181,17 @@ module _ {search : SearchValue} {haystack : List ℕ} {at : ℕ} {it next : Matc
   -- a step gives the leftmost match from there on
   pub match_from : {to : Span → Option MatchValue → ℕ} (answer : Option MatchValue) → GivesThen to it answer next
       → IsLeftmost search.query search.ignore_case haystack (rest_from haystack at) answer
-  match_from answer step =
-      subst (λ (s : SearchValue). IsLeftmost s.query s.ignore_case haystack (rest_from haystack at) answer)
-      from.search_is
-      (subst (λ (h : List ℕ). IsLeftmost it.search.query it.search.ignore_case h (rest_from haystack at) answer)
-      from.haystack_is
-      (subst (λ end. IsLeftmost it.search.query it.search.ignore_case it.haystack (between at end) answer) from.end_is
-      (subst (λ at. IsLeftmost it.search.query it.search.ignore_case it.haystack (between at it.span.end) answer)
-      from.at_is step.leftmost)))
+  match_from answer step = grind arith
 
   -- and the loop goes on at the match's end
   pub matches_go_on : {found : MatchValue} {to : ℕ} → to ≡ found.end → GivesMatch it (Some found) next
       → AreMatchesFrom search haystack to next
-  matches_go_on {found} end step =
-      let leftmost = match_from (Some found) step in
-      record {
-        search_is = ap (λ (m : MatchesValue). m.search) step.goes_on ∙ from.search_is;
-        haystack_is = ap (λ (m : MatchesValue). m.haystack) step.goes_on ∙ from.haystack_is;
-        end_is = ap (λ (m : MatchesValue). m.span.end) step.goes_on ∙ from.end_is;
-        at_is = ap (λ (m : MatchesValue). m.at) step.goes_on ∙ sym end;
-        within = omega (arith, end, leftmost.whole, leftmost.occurs.before_end);
-      }
+  matches_go_on {found} end step = grind (arith, match_from)
 
 -- a search of which the kind and the case are known is the one by these for its patterns
 pub search_kept : (search : SearchValue) {kind : MatchKind} {ignore_case : Bool} → search.query.kind ≡ kind
     → search.ignore_case ≡ ignore_case → search ≡ search_by kind ignore_case search.query.patterns
-search_kept search {kind} {ignore_case} kind_is case_is =
-    ap (λ (b : Bool). search_by search.query.kind b search.query.patterns) case_is
-    ∙ ap (λ (k : MatchKind). search_by k ignore_case search.query.patterns) kind_is
+search_kept search {kind} {ignore_case} kind_is case_is = grind arith
 
 -- A loop over a haystack by the automaton of a search: the state after the part of it that was read.
 module _ {search : OverlappingValue} {t : Tables} (is_for : overlapping_value t ≡ search) (haystack : List ℕ)
@@ -242,9 +201,7 @@ module _ {search : OverlappingValue} {t : Tables} (is_for : overlapping_value t 
     pub part_step : at < length haystack → IsStateAfter t (slice_range haystack from at) state → (next : ℕ)
         → ((text : List ℕ) → IsStateAfter t text state → IsStateAfter t (text ++ get_or haystack at 0 ∷ []) next)
         → IsStateAfter t (slice_range haystack from (at + 1)) next
-    part_step inside is next step =
-        subst (λ text. IsStateAfter t text next) (sym (slice_push haystack from at after inside))
-        (step (slice_range haystack from at) is)
+    part_step inside is next step = grind (arith, slice_push)
 
     -- what `is_match` tells: whether an occurrence ends there
     pub part_tells : at ≤ length haystack → IsStateAfter t (slice_range haystack from at) state → (told : Bool)
@@ -299,28 +256,18 @@ module _ {search : OverlappingValue} {t : Tables} (is_for : overlapping_value t 
 -- where there is no pattern the states are not too many
 pub none_need_few : (ignore_case : Bool) → ¬ NeedTooManyStates ignore_case []
 unfolding NeedTooManyStates
-none_need_few ignore_case (classes, are, tells, many) =
-    none_few (subst (HasTooManyStates []) (one_class ignore_case) many)
+none_need_few ignore_case (classes, are, tells, many) = grind (arith, none_few, one_class)
 
 -- nor are those of the reversed patterns
 pub none_need_few_reversed : (ignore_case : Bool) → ¬ NeedTooManyReversed ignore_case []
 unfolding NeedTooManyReversed
-none_need_few_reversed ignore_case (classes, are, tells, many) =
-    none_few (subst (HasTooManyStates []) (one_class ignore_case) many)
+none_need_few_reversed ignore_case (classes, are, tells, many) = grind (arith, none_few, one_class)
 
 -- what occurs from an offset on occurs in the haystack
 is_occurrence : {search : SearchValue} {haystack : List ℕ} {at : ℕ} {found : MatchValue}
     → IsLeftmostMatch search.query search.ignore_case haystack (rest_from haystack at) found
     → IsOccurrence search.query.patterns search.ignore_case haystack (whole_of haystack) found
-is_occurrence is = record {
-  occurs = record {
-    is_pattern = is.occurs.is_pattern;
-    after_start = omega arith;
-    before_end = is.occurs.before_end;
-    same = is.occurs.same;
-  };
-  whole = is.whole;
-}
+is_occurrence is = grind arith
 
 -- two functions that give the same bytes for each match give the same text
 pub replaced_same : (search : SearchValue) (haystack : List ℕ) (f g : MatchValue → List ℕ)
@@ -330,19 +277,14 @@ pub replaced_same : (search : SearchValue) (haystack : List ℕ) (f g : MatchVal
     → replaced_by f haystack at all ≡ replaced_by g haystack at all
 replaced_same search haystack f g same at [] nothing = refl
 replaced_same search haystack f g same at (found ∷ more) greedy =
-    let before = slice_range haystack at found.start in
-    ap (λ bytes. before ++ (bytes ++ replaced_by f haystack found.end more)) (same found (is_occurrence greedy.0))
-    ∙ ap (λ rest. before ++ (g found ++ rest)) (replaced_same search haystack f g same found.end more greedy.1)
+    grind (arith, is_occurrence, replaced_same search haystack f g same found.end more greedy.1)
 
 -- what a function gives for each pattern, as replacements, is what it gives for the pattern of each match
 pub replaced_by_patterns : (search : SearchValue) (haystack : List ℕ) (f : List ℕ → List ℕ) (all : List MatchValue)
     → IsGreedy search.query search.ignore_case haystack 0 all
     → replaced haystack (map f search.query.patterns) 0 all
     ≡ replaced_by (λ found. f (pattern_at search.query.patterns found.pattern)) haystack 0 all
-replaced_by_patterns search haystack f all greedy =
-    replaced_same search haystack (λ found. pattern_at (map f search.query.patterns) found.pattern)
-    (λ found. f (pattern_at search.query.patterns found.pattern))
-    (λ found is. get_or-map f search.query.patterns found.pattern [] [] is.occurs.is_pattern) 0 all greedy
+replaced_by_patterns search haystack f all greedy = grind (arith, get_or-map, replaced_same)
 
 -- `holds` is what holds of the function from call to call, such as that it stays as it was
 module _ {F : Type 0}
@@ -357,8 +299,7 @@ module _ {F : Type 0}
       → FoldsTo (WritesMatch step haystack) first all last
       → last.text.items ++ slice_range haystack last.at (length haystack)
       ≡ first.text.items ++ replaced_by bytes_for haystack first.at all
-  written_behind first last [] held nothing stays =
-      ap (λ (w : WritingValue F). w.text.items ++ slice_range haystack w.at (length haystack)) (sym stays)
+  written_behind first last [] held nothing stays = grind arith
   written_behind first last (found ∷ more) held greedy run =
       let next = run.0 in
       let one = run.1 in
@@ -367,9 +308,7 @@ module _ {F : Type 0}
       let rest = replaced_by bytes_for haystack found.end more in
       let called = writes first.writer found one.bytes one.before one.behind next.writer held
       (is_occurrence greedy.0) one.are_matched one.calls in
-      let items_are : next.text.items ≡ (first.text.items ++ between) ++ replacement =
-      ap (λ (v : Vec ℕ). v.items) (sym one.leaves)
-      ∙ (called.1 ∙ ap (λ items. items ++ replacement) one.between) in
+      let items_are : next.text.items ≡ (first.text.items ++ between) ++ replacement = grind arith in
       let greedy_on = subst (λ at. IsGreedy searched.query searched.ignore_case haystack at more) (sym one.goes_on)
       greedy.1 in
       written_behind next last more called.0 greedy_on run.2
@@ -441,9 +380,7 @@ within_longest = longest_is
 among_passing : (test : MatchValue → Bool) (all : List MatchValue) (found : MatchValue) → IsAmong all found
     → test found ≡ true → IsAmong (filter test all) found
 among_passing test [] found (i, (below, is)) passes = absurd (omega arith)
-among_passing test (one ∷ more) found (zero, (below, is)) passes =
-    subst (λ b. IsAmong (cond b (one ∷ filter test more) (filter test more)) found) (sym (sym (ap test is) ∙ passes))
-    (zero, (omega arith, is))
+among_passing test (one ∷ more) found (zero, (below, is)) passes = grind arith
 among_passing test (one ∷ more) found (suc i, (below, is)) passes =
     let (k, rest) = among_passing test more found (i, (omega arith, is)) passes in
     ⊎_elim

@@ -1,7 +1,7 @@
 -- The patterns that are a suffix of a pattern, from one to the next.
 use Rattle.std.proofs.lemmas.Grind.{common_steps}
 use Rattle.std.proofs.Common.{◌≡◌, ◌≢◌, ℕ, ◌+◌, ◌-◌, ◌<◌, ◌≤◌, ◌^◌, List, [], ◌∷◌, ◌++◌, length, get_or, take, drop}
-use Rattle.std.proofs.Common.{eqb, set, Option, Some, None, inl, inr, refl, sym, ap, subst, ◌∙◌, arith}
+use Rattle.std.proofs.Common.{eqb, set, Option, Some, None, inl, inr, refl, sym, subst, ◌∙◌, arith}
 use Rattle.std.proofs.lemmas.Bool.{cases_lt}
 use Rattle.std.proofs.lemmas.Bool.Decides.{Decides-eqb}
 use Rattle.std.proofs.lemmas.List.{get_or-set_other, get_or-set_same, get_or_default, get_or_past, length-drop}
@@ -48,19 +48,9 @@ module _ (patterns : List (List ℕ)) (some : NoneIsEmpty patterns) (few : lengt
           let all = first_ends patterns some (pattern_at patterns pattern) i ends in
           let itself = end_of_itself patterns pattern below in
           let size = ends_length (pattern_at patterns pattern) (pattern_at patterns i) all.is.ends in
-          let long : length (pattern_at patterns pattern) ≤ length (pattern_at patterns i) =
-          elim (all.others pattern itself) [
-            | inl equal ↦ omega (arith, ap (λ k. length (pattern_at patterns k)) equal)
-            | inr later ↦ elim later [
-              | inl shorter ↦ omega arith
-              | inr as_long ↦ omega (arith, as_long.0)
-            ]
-          ] in
-          let same : pattern_at patterns i ≡ pattern_at patterns pattern =
-          ends_same (pattern_at patterns pattern) (pattern_at patterns i) (pattern_at patterns pattern) all.is.ends
-          itself.ends (omega arith) in
-          subst (IsFirstEqual pattern) (sym at)
-          (grind arith)
+          let long : length (pattern_at patterns pattern) ≤ length (pattern_at patterns i) = grind arith in
+          let same : pattern_at patterns i ≡ pattern_at patterns pattern = grind (arith, ends_same) in
+          grind arith
 
   pub behind_first : (text : List ℕ) → HasSuffix text (drop 1 text)
   behind_first text = record { prefix = take 1 text; split = sym (take-append-drop 1 text) }
@@ -101,8 +91,7 @@ module _ (patterns : List (List ℕ)) (some : NoneIsEmpty patterns) (few : lengt
               → link ≡ unwrap_or o nothing → IsOutputLink patterns pattern link
           by None ends at = record {
             next = inl at;
-            others = λ i end later. absurd (none_ends patterns some (drop 1 (pattern_at patterns pattern)) ends i
-                (only_shorter i end later));
+            others = λ i end later. grind (arith, none_ends, only_shorter);
           }
           by (Some first) ends at =
               let all = first_ends patterns some (drop 1 (pattern_at patterns pattern)) first ends in
@@ -157,9 +146,6 @@ module _ (patterns : List (List ℕ)) (some : NoneIsEmpty patterns) (few : lengt
       → ComesLater patterns i link
   later_still i next link one is = grind arith
 
-  differs : (i other : ℕ) → ComesLater patterns i other → i ≢ other
-  differs i other is same = grind (arith, as_long)
-
   -- with the next of them it goes on with what that one's link leads to
   pub up_to_more : (text list : List ℕ) (next link : ℕ) → HasUpTo patterns text list next → next ≢ nothing
       → IsOutputLink patterns next link → HasUpTo patterns text (list ++ next ∷ []) link
@@ -181,27 +167,14 @@ module _ (patterns : List (List ℕ)) (some : NoneIsEmpty patterns) (few : lengt
           | inr later ↦ inr (is.others i (within i here end later) later)
         ]
       ];
-      next_is = elim is.next [
-        | inl none ↦ inl none
-        | inr one ↦ inr (record {
-          is_pattern = one.0.is_pattern;
-          ends = ends_on text (pattern_at patterns next) (pattern_at patterns link) here.ends one.0.ends;
-        })
-      ];
+      next_is = grind (arith, ends_on, text);
     }
   ]
     where
       within : (i : ℕ) → IsSuffix patterns text next → IsSuffix patterns text i → ComesLater patterns next i
           → IsSuffix patterns (pattern_at patterns next) i
-      within i here end (inl shorter) = record {
-        is_pattern = end.is_pattern;
-        ends = ends_within text (pattern_at patterns i) (pattern_at patterns next) end.ends here.ends (omega arith);
-      }
-      within i here end (inr as_long) = record {
-        is_pattern = end.is_pattern;
-        ends = ends_within text (pattern_at patterns i) (pattern_at patterns next) end.ends here.ends
-            (omega (arith, as_long.0));
-      }
+      within i here end (inl shorter) = grind (arith, ends_within, text)
+      within i here end (inr as_long) = grind (arith, as_long, ends_within, text)
 
   -- and at the end it has all: sorted, they ascend
   pub up_to_all : (text list sorted : List ℕ) (next : ℕ) → HasUpTo patterns text list next → next ≡ nothing

@@ -26,8 +26,7 @@ mixed_twice : (number : ℕ) → number < 2 ^ 32 → mixed (mixed number) ≡ nu
 mixed_twice number small = grind (arith, common_steps, upper_stays)
 
 mixed_small : (number : ℕ) → number < 2 ^ 32 → mixed number < 2 ^ 32
-mixed_small number small =
-    xor_of_32 number (number / 2 ^ 16) small (omega (arith, small, div-add-mod' number (2 ^ 16)))
+mixed_small number small = grind (arith, div-add-mod', xor_of_32)
 
 -- the factor is odd, so only equal numbers are stirred to the same
 stirred_tells : (one other : ℕ) → one < 2 ^ 32 → other < 2 ^ 32 → stirred one ≡ stirred other → one ≡ other
@@ -57,17 +56,11 @@ joined_small check other = check_small (check_with check other) 0
 
 joined_before : (one other behind : ℕ) → one < 2 ^ 32 → other < 2 ^ 32
     → joined_with one behind ≡ joined_with other behind → one ≡ other
-joined_before one other behind small small' same =
-    same_before one other behind small small'
-    (same_before (check_with one behind) (check_with other behind) 0 (check_small one behind)
-    (check_small other behind) same)
+joined_before one other behind small small' same = grind (arith, check_small, same_before)
 
 joined_added : (check one other : ℕ) → one < 2 ^ 32 → other < 2 ^ 32
     → joined_with check one ≡ joined_with check other → one ≡ other
-joined_added check one other small small' same =
-    same_added check one other small small'
-    (same_before (check_with check one) (check_with check other) 0 (check_small check one) (check_small check other)
-    same)
+joined_added check one other small small' same = grind (arith, check_small, same_added, same_before)
 
 -- the four checks at the start
 abbrev pub at_first : Checks
@@ -90,24 +83,7 @@ pub record Tells (more : List ℕ) : Type 0 where
       → d ≡ other
 
 pub tells : (more : List ℕ) → Tells more
-tells [] =
-    let j = joined_with in
-    let all = joined_small in
-    record {
-      first = λ a other b c d small small' same. joined_added 0 a other small small'
-          (joined_before (j 0 a) (j 0 other) b (all 0 a) (all 0 other)
-          (joined_before (j (j 0 a) b) (j (j 0 other) b) c (all (j 0 a) b) (all (j 0 other) b)
-          (joined_before (j (j (j 0 a) b) c) (j (j (j 0 other) b) c) d (all (j (j 0 a) b) c)
-          (all (j (j 0 other) b) c) same)));
-      second = λ a b other c d small small' same. joined_added (j 0 a) b other small small'
-          (joined_before (j (j 0 a) b) (j (j 0 a) other) c (all (j 0 a) b) (all (j 0 a) other)
-          (joined_before (j (j (j 0 a) b) c) (j (j (j 0 a) other) c) d (all (j (j 0 a) b) c)
-          (all (j (j 0 a) other) c) same));
-      third = λ a b c other d small small' same. joined_added (j (j 0 a) b) c other small small'
-          (joined_before (j (j (j 0 a) b) c) (j (j (j 0 a) b) other) d (all (j (j 0 a) b) c)
-          (all (j (j 0 a) b) other) same);
-      fourth = λ a b c d other small small' same. joined_added (j (j (j 0 a) b) c) d other small small' same;
-    }
+tells [] = grind (arith, joined_added, joined_before, joined_small)
 tells (number ∷ more) =
     let rest = tells more in
     let w = check_with in
@@ -138,8 +114,7 @@ zeros_of_four = record { first = 0; second = 0; third = 0; fourth = 0 }
 zeros_keep : (zeros : List ℕ) → All (λ number. number ≡ 0) zeros → fold checks_with zeros_of_four zeros ≡ zeros_of_four
 zeros_keep [] are = refl
 zeros_keep (number ∷ zeros) are =
-    ap (λ n. fold checks_with (checks_with zeros_of_four n) zeros) (All-head (λ n. n ≡ 0) number zeros are)
-    ∙ zeros_keep zeros (All-tail (λ n. n ≡ 0) number zeros are)
+    grind (arith, All-head, All-tail, zeros_keep zeros (All-tail (λ n. n ≡ 0) number zeros are))
 
 pub zeros_are_told : (zeros : List ℕ) → All (λ number. number ≡ 0) zeros → check_of zeros ≢ 0
 unfolding check_of

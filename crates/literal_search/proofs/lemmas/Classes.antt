@@ -1,7 +1,6 @@
 -- Classes that tell bytes from each other.
-use Rattle.std.proofs.Common.{◌≡◌, ℕ, ◌<◌, Bool, true, false, List, [], ◌∷◌, if◌then◌else◌, length, get_or, map}
-use Rattle.std.proofs.Common.{◌+◌, eqb, inl, inr, replicate}
-use Rattle.std.proofs.Common.{refl, sym, ap, subst, ◌∙◌, arith}
+use Rattle.std.proofs.Common.{◌≡◌, ℕ, ◌<◌, Bool, true, false, List, [], ◌∷◌, if◌then◌else◌, length, get_or, map, ◌+◌}
+use Rattle.std.proofs.Common.{eqb, inl, inr, replicate, refl, sym, ap, subst, ◌∙◌, arith}
 use Rattle.std.proofs.lemmas.Bool.{cases_lt, eq-eqb, eqb-true}
 use Rattle.std.proofs.lemmas.List.{ext_get_or, get_or-map, get_or-replicate, get_or_default, get_or_past, length-map}
 use Rattle.std.proofs.lemmas.List.{length-replicate}
@@ -20,8 +19,7 @@ pub marks_all : (ignore_case : Bool) (seen : List Bool) (patterns : List (Vec �
     → (i : ℕ) → i < length (map (λ (pattern : Vec ℕ). pattern.items) patterns)
     → Marks ignore_case seen (pattern_at (map (λ (pattern : Vec ℕ). pattern.items) patterns) i)
 marks_all ignore_case seen patterns marks i is_pattern =
-    let below : i < length patterns =
-    omega (arith, is_pattern, length-map patterns (λ (pattern : Vec ℕ). pattern.items)) in
+    let below : i < length patterns = grind (arith, length-map) in
     let d = one_of i patterns below in
     subst (λ (bytes : List ℕ). Marks ignore_case seen bytes)
     (sym (get_or-map (λ (pattern : Vec ℕ). pattern.items) patterns i d [] below)) (marks i d below)
@@ -61,11 +59,9 @@ module _ (ignore_case : Bool) (seen : List Bool) (lists : List (List ℕ)) (size
         let of = Any-from_list_any (λ b. eqb (folded ignore_case b) byte) one.1 one.4 in
         let pattern_is : pattern_at lists one.0 ≡ one.1 = get_or_default lists one.0 [] one.1 one.2 ∙ one.3 in
         let long = ap (λ (l : List ℕ). length l) pattern_is in
-        let byte_is : get_or (pattern_at lists one.0) of.0 0 ≡ of.1 =
-        ap (λ l. get_or l of.0 0) pattern_is ∙ (get_or_default one.1 of.0 0 of.1 of.2 ∙ of.3) in
+        let byte_is : get_or (pattern_at lists one.0) of.0 0 ≡ of.1 = grind (arith, get_or_default) in
         let mark = (marks one.0 one.2 of.0 (omega (arith, long, of.2))).1 in
-        ap (λ b. get_or seen b false)
-        (sym (eqb-true (folded ignore_case of.1) byte of.4) ∙ ap (folded ignore_case) (sym byte_is)) ∙ mark
+        grind (arith, eqb-true)
 
     seen_is : seen ≡ map (is_in_patterns ignore_case lists) (range_with_len 0 256)
     seen_is =

@@ -1,23 +1,21 @@
 -- States, lists and rows, as they grow.
 use Rattle.std.proofs.lemmas.Grind.{common_steps}
 use Rattle.std.proofs.Common.{◌≡◌, ℕ, ◌+◌, ◌*◌, ◌-◌, ◌<◌, ◌≤◌, ◌^◌, List, [], ◌∷◌, ◌++◌, length, get_or, inl, inr, refl}
-use Rattle.std.proofs.Common.{◌≢◌, get_or-take, map, set, take, get_or-set_other, get_or-set_same}
-use Rattle.std.proofs.Common.{sym, ap, ◌∙◌, arith, subst, ◌/◌, Option, None, Some}
+use Rattle.std.proofs.Common.{◌≢◌, get_or-take, map, set, take, get_or-set_other, get_or-set_same, sym, ap, ◌∙◌, arith}
+use Rattle.std.proofs.Common.{subst, ◌/◌, Option, None, Some}
 use Rattle.std.proofs.lemmas.Bool.{cases_lt}
 use Rattle.std.proofs.lemmas.List.{drop-append-le, get_or-append_right, get_or-map, get_or_append_left, get_or_push}
-use Rattle.std.proofs.lemmas.List.{length-drop, length-map}
-use Rattle.std.proofs.lemmas.List.{length_push, length-append, take-append-le, take_all}
+use Rattle.std.proofs.lemmas.List.{length-drop, length-map, length_push, length-append, take-append-le, take_all}
 use Rattle.std.proofs.lemmas.List.FromFn.{get_or-range_with_len, length-range_with_len}
 use Rattle.std.proofs.lemmas.Nat.{mul-add-lt, same_from_place, div-mul-add}
-use Rattle.std.specs.Global.{Vec}
 use Rattle.std.specs.List.{range_with_len}
 use Rattle.std.specs.Option.{unwrap_or, IfSome, option_or}
 use Rattle.literal_search.specs.Table.{LeadsTo, Recognises, nothing, stride_of, code_of}
 use Rattle.literal_search.specs.Words.{ending, live_suffix, word_of, first_equal}
 use Rattle.literal_search.specs.Inside.Grown.{AreRows, IsLonger, failure_of, list_for, symbols_after}
 use Rattle.literal_search.specs.Inside.Construction.{AreTexts, IsConstruction, IsStateAt, list_in, texts_of, word_in}
-use Rattle.literal_search.specs.Inside.Construction.{words_in}
-use Rattle.literal_search.specs.Inside.Construction.{HasFailure, LeadBack, LeadOn, LeadsIn, word_after, words_of}
+use Rattle.literal_search.specs.Inside.Construction.{words_in, HasFailure, LeadBack, LeadOn, word_after}
+use Rattle.literal_search.specs.Inside.Construction.{words_of}
 use Rattle.literal_search.specs.declared.grow.Construction.{Construction}
 use Rattle.literal_search.specs.declared.grow.State.{State}
 use Rattle.literal_search.specs.declared.grow.Texts.{Texts}
@@ -163,20 +161,7 @@ module _ (t : Texts) where
       → get_or last t.width 0 ≡ unwrap_or (ending (texts_of t) (word_of (words_in t states) state)) nothing
       → IsConstruction t states lists (rows ++ last)
   grown_row states lists rows last state g full is_state long leads ends =
-      let fits = mul-add-lt state (stride_of t.width) t.width (length states) is_state (omega arith) in
-      record {
-        texts = g.texts;
-        some = g.some;
-        root = g.root;
-        few = g.few;
-        filled = omega (arith, length-append rows last, full, long, fits);
-        numbers = g.numbers;
-        each = g.each;
-        led = record {
-          leads = grind (arith, cases_lt, get_or_append_left, at_last);
-          ends = grind (arith, cases_lt, get_or_append_left, at_last);
-        };
-      }
+      grind (arith, at_last, cases_lt, get_or_append_left, length-append, mul-add-lt)
 
   -- from a list of numbers for at least all symbols
   pub row_pushed : (states : List State) (lists rows longer row whole : List ℕ) (state : ℕ) (s : State)
@@ -230,19 +215,13 @@ module _ (t : Texts) where
 
 -- words of states that stay the same
 pub words_same : (g g' : Construction) → g'.texts ≡ g.texts → g'.states ≡ g.states → words_of g' ≡ words_of g
-words_same g g' texts states =
-    ap (λ t. words_in t g'.states.items) texts ∙ ap (λ (s : Vec State). words_in g.texts s.items) states
+words_same g g' texts states = grind arith
 
 module _ (t : Texts) (states : List State) (lists rows : List ℕ) (g : IsConstruction t states lists rows) where
   -- a number that leads to a state: its row
   pub row_of : (code : ℕ) (word : List ℕ) (to : LeadsTo (texts_of t) (words_in t states) t.width code word)
       → (to.state < length states) × (to.state * stride_of t.width < 2 ^ 31)
   row_of code word to = grind (arith, common_steps)
-
-  -- the failure link of a symbol
-  pub link_of_root : (symbol : ℕ) → LeadsTo (texts_of t) (words_in t states) t.width 0
-      (failure_of (texts_of t) (word_of (words_in t states) 0 ++ symbol ∷ []))
-  link_of_root symbol = grind (arith, common_steps)
 
   failure_is : (n : ℕ) (d : State) → 0 < n → n < length states
       → HasFailure (texts_of t) (words_in t states) t.width n (get_or states n d)
@@ -264,8 +243,7 @@ module _ (t : Texts) (states : List State) (lists rows : List ℕ) (g : IsConstr
       let word = word_of (words_in t states) n in
       let from = link.to.state in
       let row = row_of (get_or states n s).failure _ link.to in
-      let at : start ≡ from * stride_of t.width =
-      read (from * stride_of t.width) _ row.1 (ap (λ (x : State). x.failure) is ∙ link.to.code_is) in
+      let at : start ≡ from * stride_of t.width = grind arith in
       let same : word_of (words_in t states) from ≡ failure_of (texts_of t) word =
       grind (arith, common_steps) in
       let whole = mul-add-lt from (stride_of t.width) t.width n link.earlier (omega arith) in (
@@ -301,12 +279,7 @@ module _ (t : Texts) (states : List State) (lists rows : List ℕ) (g : IsConstr
   pub after_is : (n : ℕ) (s : State) → n < length states → s ≡ get_or states n s
       → map (λ i. get_or (pattern_at (texts_of t) i) s.depth 256) (list_in lists s)
       ≡ symbols_after (texts_of t) (word_of (words_in t states) n)
-  after_is n s below is =
-      let word = word_of (words_in t states) n in
-      let long : length word ≡ s.depth = long_word n s below ∙ ap (λ (x : State). x.depth) (sym is) in
-      ap (λ d. map (λ i. get_or (pattern_at (texts_of t) i) d 256) (list_in lists s)) (sym long)
-      ∙ ap (map (λ i. get_or (pattern_at (texts_of t) i) (length word) 256))
-      (ap (list_in lists) is ∙ list_at n s below)
+  after_is n s below is = grind (arith, list_at, long_word)
 
 -- a number more in a row, behind words that may be more
 module _ (g g' : Construction) (state class code : ℕ) (row : List ℕ) (texts : g'.texts ≡ g.texts)
@@ -351,22 +324,7 @@ pub passed_over : (g : Construction) (state from next : ℕ) (row symbols : List
     → ((k : ℕ) → k < length symbols → from ≤ get_or symbols k 0 → next ≤ get_or symbols k 0)
     → LeadOn g state from row → LeadBack g state from row → LeadOn g state next row
 passed_over g state from next row symbols are few none on back symbol before is_symbol =
-    elim (cases_lt symbol from) [
-      | inl early ↦ on symbol early is_symbol
-      | inr late ↦
-          let word = word_of (words_of g) state in
-          let unlisted : list_for (texts_of g.texts) (word ++ symbol ∷ []) ≡ [] =
-          none_listed (texts_of g.texts) word symbol (omega (arith, few, is_symbol))
-          (λ k inside at. absurd (
-          let same = ap (λ (l : List ℕ). get_or l k 0) are in
-          let long = ap (λ (l : List ℕ). length l) are in
-          let past = none k (omega (arith, long, inside)) (omega (arith, same, at, late)) in
-          omega (arith, same, at, past, before))) in
-          subst (LeadsIn g (get_or row symbol 0))
-          (sym (live_unbegun (texts_of g.texts) (word ++ symbol ∷ [])
-          (unbegun_by_list (texts_of g.texts) (word ++ symbol ∷ []) unlisted)))
-          (back symbol late is_symbol)
-    ]
+    grind (arith, cases_lt, live_unbegun, none_listed, unbegun_by_list)
 
 -- what ends with a word with one symbol more
 pub ending_push : (patterns : List (List ℕ)) (word : List ℕ) (symbol : ℕ)

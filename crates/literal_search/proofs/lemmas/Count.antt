@@ -1,4 +1,5 @@
 -- Counts of every occurrence: of what ends at one offset, between two, and in a whole span.
+use Rattle.std.proofs.lemmas.Grind.{common_steps}
 use Rattle.std.proofs.Common.{◌≡◌, ℕ, ◌+◌, ◌*◌, ◌-◌, ◌<◌, ◌≤◌, ◌^◌, ◌%◌, List, [], ◌∷◌, ◌++◌, length, map, get_or}
 use Rattle.std.proofs.Common.{Option, Some, None, IsSome, ap, arith, inl, inr, length-append, refl, subst, sym, ◌∙◌}
 use Rattle.std.proofs.lemmas.Bool.{cases_lt}
@@ -9,7 +10,7 @@ use Rattle.std.specs.List.{AllPairs, range_with_len}
 use Rattle.literal_base.specs.Occurs.{IsValidSpan, between, pattern_at}
 use Rattle.literal_base.specs.declared.search.Span.{Span}
 use Rattle.literal_base.specs.MatchValue.{MatchValue}
-use Rattle.literal_search.specs.Inside.Classes.{AreClasses, symbols_in}
+use Rattle.literal_search.specs.Inside.Classes.{AreClasses}
 use Rattle.literal_search.specs.Inside.Count.{CountFour, CountsBetween, HasCounted, IsAfter, IsWalk}
 use Rattle.literal_search.specs.Inside.LentTables.{IsNextEnd}
 use Rattle.literal_search.specs.Inside.NextEnd.{IsWalkAtEnd}
@@ -40,35 +41,17 @@ pairs_append : {X : Type 0} (R : X → X → Type 0) (xs ys : List X) → AllPai
     → ((i j : ℕ) (d : X) → i < length xs → j < length ys → R (get_or xs i d) (get_or ys j d))
     → AllPairs R (xs ++ ys)
 pairs_append R xs ys one other across i j d before below =
-    let long = length-append xs ys in
-    grind (arith, cases_lt, get_or_append_left, get_or-append_right)
+    grind (arith, cases_lt, get_or-append_right, get_or_append_left, length-append)
 
 -- nothing ends between an offset and itself
 pub nothing : (search : OverlappingValue) (haystack : List ℕ) (span : Span) (from to : ℕ) → to ≤ from
     → CountsBetween search haystack span from to 0
-nothing search haystack span from to same = record {
-  all = [];
-  each = All-nil (λ (found : MatchValue). IsOccurrence search.patterns search.ignore_case haystack span found
-      × (from < found.end) × (found.end ≤ to));
-  ordered = λ i j d before below. absurd (omega arith);
-  every = λ found is after upto. absurd (omega arith);
-  count_is = refl;
-}
+nothing search haystack span from to same = grind (arith, All-nil)
 
 -- four walks have counted nothing yet
 pub none_yet : (search : OverlappingValue) (haystack : List ℕ) (span : Span) (at part count : ℕ)
     → CountFour search haystack span at part 0 count count
-none_yet search haystack span at part count = record {
-  first = 0;
-  second = 0;
-  third = 0;
-  fourth = 0;
-  in_first = nothing search haystack span at (at + 0) (omega arith);
-  in_second = nothing search haystack span (at + part) (at + part + 0) (omega arith);
-  in_third = nothing search haystack span (at + 2 * part) (at + 2 * part + 0) (omega arith);
-  in_fourth = nothing search haystack span (at + 3 * part) (at + 3 * part + 0) (omega arith);
-  total = omega arith;
-}
+none_yet search haystack span at part count = grind (arith, nothing)
 
 -- the number that a table of a header's parts gives for a byte, by these parts
 pub number_is : (header : Header) (table : Table) (row byte code : ℕ) → table ≡ header_table header
@@ -77,9 +60,7 @@ pub number_is : (header : Header) (table : Table) (row byte code : ℕ) → tabl
     → code ≡ get_or (rows_by table) (row + get_or (classes_by table) byte 0) 0)
     → row + header.width < length (rows_of header.rows.now)
     → code ≡ get_or (rows_of header.rows.now) (row + get_or (unpacked header.classes.now) byte 0) 0
-number_is header table row byte code is classes number =
-    subst (λ (t : Table). AreClasses (classes_by t) t.width → row + t.width < length (rows_by t)
-    → code ≡ get_or (rows_by t) (row + get_or (classes_by t) byte 0) 0) is number classes
+number_is header table row byte code is classes number = grind arith
 
 module _ (search : OverlappingValue) (haystack : List ℕ) (span : Span) where
   abbrev Is : MatchValue → Type 0
@@ -88,13 +69,7 @@ module _ (search : OverlappingValue) (haystack : List ℕ) (span : Span) where
   -- nothing ends between two offsets
   pub none_between : (from to : ℕ) → ((found : MatchValue) → Is found → from < found.end → to < found.end)
       → CountsBetween search haystack span from to 0
-  none_between from to none = record {
-    all = [];
-    each = All-nil (λ (found : MatchValue). Is found × (from < found.end) × (found.end ≤ to));
-    ordered = λ i j d before below. absurd (omega arith);
-    every = λ found is after upto. absurd (omega (arith, none found is after));
-    count_is = refl;
-  }
+  none_between from to none = grind (arith, All-nil)
 
   -- of two adjacent stretches
   pub joined : (from mid to a b : ℕ) → from ≤ mid → mid ≤ to → CountsBetween search haystack span from mid a
@@ -133,15 +108,7 @@ module _ (search : OverlappingValue) (haystack : List ℕ) (span : Span) where
   pub whole : (count : ℕ) → CountsBetween search haystack span span.start span.end count
       → ((found : MatchValue) → Is found → span.start < found.end)
       → IsOverlappingCount search.patterns search.ignore_case haystack span count
-  whole count counts some = (
-    counts.all,
-    record {
-      each = λ k d below. (counts.each k d below).0;
-      ordered = counts.ordered;
-      every = λ found is. counts.every found is (some found is) (omega (arith, is.occurs.before_end, is.whole));
-    },
-    counts.count_is,
-  )
+  whole count counts some = grind arith
 
 module _ (search : OverlappingValue) (haystack : List ℕ) (span : Span) (at part step old count : ℕ)
     (four : CountFour search haystack span at part step old count)
@@ -196,9 +163,7 @@ module _ (p : Tables) (parts : AreTables p) (haystack : List ℕ) (bytes : (i : 
     -- each occurrence ends after the start of the span
     pub ends_after : (found : MatchValue) → IsOccurrence p.patterns p.ignore_case haystack span found
         → span.start < found.end
-    ends_after found is =
-        let some = parts.kept.some found.pattern [] is.occurs.is_pattern in
-        omega (arith, some, is.occurs.after_start, is.whole)
+    ends_after found is = grind arith
 
     -- a walk may begin one byte less before an offset than the longest pattern has
     pub walk_begins : (longest start from : ℕ) → longest ≡ longest_of p.patterns → span.start ≤ from
@@ -207,31 +172,15 @@ module _ (p : Tables) (parts : AreTables p) (haystack : List ℕ) (bytes : (i : 
       from = from;
       after = after;
       before = omega arith;
-      at = λ recognises. subst (λ (t : List ℕ). IsAt (texts_in p) p.width p.rows recognises t 0)
-          (sym (nothing_read p.classes haystack from)) (at_start (texts_in p) p.width p.rows recognises);
-      begins = λ i offset o further.
-          let long = longest_is p.patterns i in
-          let some = parts.kept.some i [] o.is_pattern in
-          omega (arith, is, far, long, some, further);
+      at = λ recognises. grind (arith, at_start, nothing_read);
+      begins = λ i offset o further. grind (arith, longest_is);
     }
 
     -- a walk at an offset, past all that ends there
     pub position_after : (at row count : ℕ) → span.start ≤ at → at ≤ span.end
         → (at < span.end → IsAfter p haystack span at row) → count ≡ length p.patterns
         → IsPosition p haystack span (record { at = at; row = row; pattern = count; next = 0; end = 0 })
-    position_after at row count after inside walk is = record {
-      after = after;
-      inside = inside;
-      stands = walk;
-      ordered = omega arith;
-      within = omega arith;
-      left = record {
-        ascends = λ j k from order before. absurd (omega arith);
-        each = λ k from before. absurd (omega arith);
-        every = λ i suffix from.
-            absurd (omega (arith, suffix.is_pattern, is, from, length-map p.patterns (symbols_in p.classes)));
-      };
-    }
+    position_after at row count after inside walk is = grind (arith, length-map)
 
     -- what ends at a position, after nothing has ended since an offset
     module _ (here : Position) (standing : IsPosition p haystack span here) (from : ℕ) (later : from < here.at)
@@ -259,25 +208,16 @@ module _ (p : Tables) (parts : AreTables p) (haystack : List ℕ) (bytes : (i : 
 
         is_one : (k : ℕ) → here.next ≤ k → k < here.end
             → IsOccurrence p.patterns p.ignore_case haystack span (found_at k)
-        is_one k after before =
-            end_found p parts haystack bytes span valid (get_or p.ends k 0) here.at standing.after standing.inside
-            (standing.left.each k after before).0
+        is_one k after before = grind (arith, end_found)
 
         same : (found : MatchValue) (k : ℕ) → IsOccurrence p.patterns p.ignore_case haystack span found
             → found.end ≡ here.at → get_or p.ends k 0 ≡ found.pattern → found ≡ found_at k
-        same found k is end pattern =
-            let start : found.start ≡ here.at - length (pattern_at p.patterns found.pattern) =
-            omega (arith, is.whole, end) in
-            grind arith
+        same found k is end pattern = grind arith
 
         pub counts_here : CountsBetween (overlapping_value p) haystack span from here.at (here.end - here.next)
         counts_here = record {
           all = list;
-          each = λ i d below.
-              let k = here.next + i in
-              subst (λ (found : MatchValue). IsOccurrence p.patterns p.ignore_case haystack span found
-              × (from < found.end) × (found.end ≤ here.at)) (sym (at_index i d (omega (arith, long, below))))
-              (is_one k (omega arith) (omega (arith, long, below)), later, omega arith);
+          each = λ i d below. grind (arith, at_index, is_one, long);
           ordered = λ i j d before below.
               let less = standing.left.ascends (here.next + i) (here.next + j) (omega arith) (omega arith)
               (omega (arith, long, below)) in
@@ -318,17 +258,7 @@ module _ (p : Tables) (parts : AreTables p) (haystack : List ℕ) (bytes : (i : 
 
         pub counted_none : IsNextEnd p haystack span before None → c.at ≤ span.end
             → HasCounted p haystack span (record { at = span.end; row = c.row; count = c.count })
-        counted_none next inside =
-            let none = none_between (overlapping_value p) haystack span c.at span.end
-            (λ found is further. absurd (next.to_come found (record { occurrence = is; after = inl further }))) in
-            let same : c.count + 0 ≡ c.count = omega arith in
-            record {
-              counts = subst (CountsBetween (overlapping_value p) haystack span span.start span.end) same
-                  (joined (overlapping_value p) haystack span span.start c.at span.end c.count 0 after inside
-                  counted.counts
-                  none);
-              walk = λ less. absurd (omega arith);
-            }
+        counted_none next inside = grind (arith, joined, none_between, same)
 
         pub counted_some : (here : Position) → IsNextEnd p haystack span before (Some here) → c.at < here.at
             → HasCounted p haystack span
@@ -376,14 +306,7 @@ module _ (p : Tables) (parts : AreTables p) (haystack : List ℕ) (bytes : (i : 
         walk_to : (next : ℕ) → ((recognises : Recognises (texts_in p) p.width p.rows)
             → IsAt (texts_in p) p.width p.rows recognises (read ++ symbol ∷ []) next)
             → IsWalk p haystack span start (at + 1) next
-        walk_to next is = record {
-          from = walk.from;
-          after = walk.after;
-          before = omega (arith, walk.before);
-          at = λ recognises. subst (λ (t : List ℕ). IsAt (texts_in p) p.width p.rows recognises t next) (sym more)
-              (is recognises);
-          begins = walk.begins;
-        }
+        walk_to next is = grind (arith, more)
 
         pub walk_small : code < 2 ^ 31 → IsWalk p haystack span start (at + 1) code
         walk_small small = walk_to code (λ recognises.
@@ -413,21 +336,7 @@ module _ (p : Tables) (parts : AreTables p) (haystack : List ℕ) (bytes : (i : 
         -- the row, without the bit that says whether a pattern ends
         pub walk_next : code < 2 ^ 32 → (next : ℕ) → next ≡ code % 2 ^ 31
             → IsWalk p haystack span start (at + 1) next × (next < length p.rows) × (next < 2 ^ 31)
-        walk_next fits next next_is = elim (cases_lt code (2 ^ 31)) [
-          | inl small ↦
-              let same : code ≡ next = omega (arith, small, next_is) in (
-                subst (λ (row : ℕ). IsWalk p haystack span start (at + 1) row) same (walk_small small),
-                omega (arith, same, row_small small),
-                omega (arith, same, small),
-              )
-          | inr large ↦
-              let same : code - 2 ^ 31 ≡ next = omega (arith, large, next_is, fits) in
-              let row_is = row_large large in (
-                subst (λ (row : ℕ). IsWalk p haystack span start (at + 1) row) same (walk_large large),
-                omega (arith, same, row_is.0),
-                omega (arith, same, row_is.1),
-              )
-        ]
+        walk_next fits next next_is = grind (arith, cases_lt, row_large, row_small, same, walk_large, walk_small)
 
         -- nothing ends after the byte
         pub none_small : code < 2 ^ 31 → start ≤ at → (found : MatchValue)
@@ -455,13 +364,7 @@ module _ (p : Tables) (parts : AreTables p) (haystack : List ℕ) (bytes : (i : 
             let ends = (at_with_end (texts_in p) p.width p.rows parts.recognises read row (walk.at parts.recognises)
             symbol below code (code_is parts.recognises) large).1 in
             record {
-              stands = record {
-                from = on.from;
-                after = on.after;
-                before = on.before;
-                at = on.at;
-                begins = λ i offset o further. on.begins i offset o (omega arith);
-              };
+              stands = grind arith;
               ends = subst (λ (o : Option ℕ). IsSome o) (sym (ap (ending (texts_in p)) more ∙ ends)) refl;
               first = λ i offset o further. omega arith;
             }
@@ -470,21 +373,7 @@ module _ (p : Tables) (parts : AreTables p) (haystack : List ℕ) (bytes : (i : 
         module _ (late : start ≡ at) (after : span.start ≤ at) (to : ℕ) (to_is : to ≡ at + 1) where
           pub small_counts : code < 2 ^ 31 → (count : ℕ) → count ≡ 0
               → IsAfter p haystack span to code × CountsBetween (overlapping_value p) haystack span start to count
-          small_counts small count none = (
-            subst (λ (t : ℕ). IsWalk p haystack span t t code) (sym to_is) (moved (walk_small small)),
-            subst (CountsBetween (overlapping_value p) haystack span start to) (sym none)
-                (none_between (overlapping_value p) haystack span start to (λ found is further.
-                omega (arith, none_small small (omega arith) found is (omega arith)))),
-          )
-            where
-              moved : IsWalk p haystack span start (at + 1) code → IsWalk p haystack span (at + 1) (at + 1) code
-              moved on = record {
-                from = on.from;
-                after = on.after;
-                before = on.before;
-                at = on.at;
-                begins = λ i offset o further. on.begins i offset o (omega arith);
-              }
+          small_counts small count none = grind (arith, none_between, none_small, walk_small)
 
           module _ (large : 2 ^ 31 ≤ code) (next : ℕ) (next_is : next ≡ code - 2 ^ 31) where
             abbrev stop : WalkEnd
@@ -499,8 +388,7 @@ module _ (p : Tables) (parts : AreTables p) (haystack : List ℕ) (bytes : (i : 
             position = record { at = at; row = row; pattern = length p.patterns; next = 0; end = 0 }
 
             standing : IsPosition p haystack span position
-            standing = position_after at row (length p.patterns) after (omega arith)
-                (λ before. subst (λ (s : ℕ). IsWalk p haystack span s at row) late walk) refl
+            standing = grind (arith, common_steps, position_after)
 
             pub large_inside : (next + p.width < length p.rows)
                 × (get_or p.rows (next + p.width) 0 + 1 < length p.starts)
@@ -531,10 +419,4 @@ module _ (p : Tables) (parts : AreTables p) (haystack : List ℕ) (bytes : (i : 
                 )
               where
                 moved : IsWalk p haystack span at (at + 1) next → IsWalk p haystack span (at + 1) (at + 1) next
-                moved on = record {
-                  from = on.from;
-                  after = on.after;
-                  before = on.before;
-                  at = on.at;
-                  begins = λ i offset o further. on.begins i offset o (omega arith);
-                }
+                moved on = grind arith

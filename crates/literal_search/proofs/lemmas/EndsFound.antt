@@ -32,13 +32,9 @@ nothing_begun patterns (symbol ∷ text) is =
         → (live_suffix patterns text ≡ [] → (k : ℕ) → k < length text
         → begins_one patterns (drop k text) ≡ false)
         → (k : ℕ) → k < length (symbol ∷ text) → begins_one patterns (drop k (symbol ∷ text)) ≡ false
-    by_begun true begun further k inside =
-        let same : live_suffix patterns (symbol ∷ text) ≡ symbol ∷ text = cond-true _ _ _ begun in cc
+    by_begun true begun further k inside = grind (arith, cond-true)
     by_begun false unbegun further zero inside = unbegun
-    by_begun false unbegun further (suc k) inside =
-        let same : live_suffix patterns (symbol ∷ text) ≡ live_suffix patterns text =
-        cond-false _ _ _ unbegun in
-        further (sym same ∙ is) k (omega arith)
+    by_begun false unbegun further (suc k) inside = grind (arith, cond-false)
 
 pub nothing_read : (classes haystack : List ℕ) (at : ℕ) → text_of classes haystack (between at at) ≡ []
 nothing_read classes haystack at = grind arith
@@ -69,9 +65,7 @@ module _ (ignore_case : Bool) (classes : List ℕ) (patterns : List (List ℕ)) 
         (grind arith) in
         let long = text_long ignore_case classes patterns tells haystack bytes here valid_here in
         let size = symbols_length classes patterns i in
-        let same : drop (offset - from) text ≡ word =
-        grind (arith, whole_if_long, length-drop)
-        in
+        let same : drop (offset - from) text ≡ word = grind (arith, length-drop, whole_if_long) in
         record {
           is_pattern = omega (arith, known, o.is_pattern);
           ends = record {
@@ -97,8 +91,7 @@ module _ (ignore_case : Bool) (classes : List ℕ) (patterns : List (List ℕ)) 
         let size = symbols_length classes patterns i in
         let parts_long = ends_length text word is.ends in
         let long_is : length prefix ≡ start - from = omega (arith, long, size, parts_long) in
-        let same : drop (start - from) text ≡ word =
-        grind (arith, drop-append_seam) in
+        let same : drop (start - from) text ≡ word = grind (arith, drop-append_seam) in
         let stands : starts_with nat_eq (drop (start - from) text) word ≡ true =
         (starts_is Decides-eqb (drop (start - from) text) word _ refl).1 [] (same ∙ sym (append-nil word)) in
         let occurs = occurs_where ignore_case classes patterns tells haystack bytes here valid_here i start

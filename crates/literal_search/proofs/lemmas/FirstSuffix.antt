@@ -1,7 +1,7 @@
 -- The pattern that ends with a text: the first of those that are a suffix of it.
 use Rattle.std.proofs.lemmas.Grind.{common_steps}
 use Rattle.std.proofs.Common.{◌≡◌, ℕ, ◌+◌, ◌-◌, ◌<◌, ◌≤◌, List, [], ◌∷◌, ◌++◌, length, drop}
-use Rattle.std.proofs.Common.{Option, Some, None, inl, inr, ◌⊎◌, append_assoc, length-append, refl, sym, ap, ◌∙◌, arith}
+use Rattle.std.proofs.Common.{Option, Some, None, inl, ◌⊎◌, append_assoc, length-append, refl, ap, ◌∙◌, arith}
 use Rattle.std.proofs.lemmas.Bool.{and_parts}
 use Rattle.std.proofs.Math.Seq.{drop-append_seam}
 use Rattle.std.proofs.lemmas.List.{take-append-drop}
@@ -59,8 +59,7 @@ module _ (patterns : List (List ℕ)) (some : NoneIsEmpty patterns) where
       by_prefix : (prefix : List ℕ) → symbol ∷ more ≡ prefix ++ pattern_at patterns i
           → (symbol ∷ more ≡ pattern_at patterns i) ⊎ IsSuffix patterns more i
       by_prefix [] split = inl split
-      by_prefix (x ∷ prefix) split =
-          inr (grind arith)
+      by_prefix (x ∷ prefix) split = grind arith
 
   longer_end : (symbol : ℕ) (more : List ℕ) (i : ℕ) → IsSuffix patterns more i → IsSuffix patterns (symbol ∷ more) i
   longer_end symbol more i is = record {
@@ -103,13 +102,7 @@ module _ (patterns : List (List ℕ)) (some : NoneIsEmpty patterns) where
           equal_is_first (symbol ∷ more) first (whole ∙ found)
       by_first None none found further =
           let rest = further first found in
-          record {
-            is = longer_end symbol more first rest.is;
-            others = λ i end. elim (end_splits symbol more i end) [
-              | inl same ↦ absurd (not_equal (symbol ∷ more) i none end.is_pattern same)
-              | inr within ↦ rest.others i within
-            ];
-          }
+          grind (arith, end_splits, longer_end, not_equal)
 
   -- the first of the ends of a text is the first of its own
   pub first_is_own : (text : List ℕ) (first : ℕ) → IsFirstSuffix patterns text first
@@ -123,26 +116,8 @@ module _ (patterns : List (List ℕ)) (some : NoneIsEmpty patterns) where
       by None none = absurd (none_ends (pattern_at patterns first) none first own)
       by (Some other) found =
           let one = first_ends (pattern_at patterns first) other found in
-          let end : IsSuffix patterns text other = record {
-            is_pattern = one.is.is_pattern;
-            ends = ends_on text (pattern_at patterns first) (pattern_at patterns other) is.is.ends one.is.ends;
-          } in
-          elim (is.others other end) [
-            | inl same ↦ ap Some (sym same)
-            | inr later ↦ elim (one.others first own) [
-              | inl same ↦ ap Some same
-              | inr earlier ↦ elim later [
-                | inl shorter ↦ elim earlier [
-                  | inl longer ↦ absurd (omega arith)
-                  | inr as_long ↦ absurd (omega (arith, as_long.0))
-                ]
-                | inr long ↦ elim earlier [
-                  | inl longer ↦ absurd (omega (arith, long.0))
-                  | inr as_long ↦ absurd (omega (arith, as_long.1, long.1))
-                ]
-              ]
-            ]
-          ]
+          let end : IsSuffix patterns text other = grind (arith, ends_on) in
+          grind arith
 
   -- the ends of a text are those of the first of them
   pub ends_of_first : (text : List ℕ) (first : ℕ) → IsFirstSuffix patterns text first → (i : ℕ)

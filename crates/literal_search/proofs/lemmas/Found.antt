@@ -1,8 +1,6 @@
 -- The best match in the classes of a span's bytes is the leftmost match in the span.
-use Rattle.std.proofs.Common.{rules}
-use Rattle.std.proofs.Common.{◌≡◌, ℕ, ◌+◌, ◌-◌, ◌<◌, ◌≤◌, Bool, true, false, List, [], length, get_or}
-use Rattle.std.proofs.Common.{drop, take, map, refl, sym, ap, ◌∙◌, arith, nat_eq}
-use Rattle.std.proofs.Common.{length-append}
+use Rattle.std.proofs.Common.{rules, ◌≡◌, ℕ, ◌+◌, ◌-◌, ◌<◌, ◌≤◌, Bool, true, false, List, [], length, get_or, drop}
+use Rattle.std.proofs.Common.{take, map, refl, sym, ap, ◌∙◌, arith, nat_eq, length-append}
 use Rattle.std.proofs.lemmas.Bool.{cases_lt}
 use Rattle.std.proofs.lemmas.Bool.Decides.{Decides-eqb}
 use Rattle.std.proofs.lemmas.List.{drop-drop, drop-map, drop-take, ext_get_or, get_or-drop, get_or-map, get_or-take}
@@ -102,12 +100,7 @@ module _ (ignore_case : Bool) (classes : List ℕ) (patterns : List (List ℕ)) 
         (λ k in_a in_p. (tells i k (get_or a k 0) below in_p (part_byte at (at + length p) k)).0)
         (sym (part_is classes haystack span at (length p) after before)
         ∙ (ap (λ n. take n text) (sym (same_length i)) ∙ (stands_prefix text word stands ∙ word_at i below))) in
-        record {
-          is_pattern = below;
-          after_start = after;
-          before_end = before;
-          same = folded_is ignore_case a ∙ (same ∙ sym (folded_is ignore_case p));
-        }
+        grind (arith, folded_is)
 
 -- no text of classes of a pattern is empty if no pattern is
 pub some_symbols : (classes : List ℕ) (patterns : List (List ℕ)) → NoneIsEmpty patterns

@@ -35,8 +35,7 @@ module _ (p : BackTables) (are : AreBackTables p) (haystack : List ℕ) (bytes :
       | inl over ↦
           let k = gap - at in
           let within : k < length (pattern_at p.search.query.patterns i) = omega (arith, over, before) in
-          let valid : IsValidSpan haystack (between start end) =
-          record { ordered = omega (arith, o.after_start, o.before_end); in_haystack = inside } in
+          let valid : IsValidSpan haystack (between start end) = grind arith in
           let byte = get_or (pattern_at p.search.query.patterns i) k 0 in
           let at_is : at + k ≡ gap = omega (arith, before) in
           let same = subst (λ n. folded p.search.ignore_case (get_or haystack n 0) ≡ folded p.search.ignore_case byte)
@@ -65,12 +64,7 @@ module _ (p : BackTables) (are : AreBackTables p) (haystack : List ℕ) (bytes :
         → IsLeftmostMatch p.search.query p.search.ignore_case haystack (between start gap) found
         → IsLeftmostMatch p.search.query p.search.ignore_case haystack (between start end) found
     leftmost_to_gap start found ordered before leftmost = record {
-      occurs = record {
-        is_pattern = leftmost.occurs.is_pattern;
-        after_start = leftmost.occurs.after_start;
-        before_end = omega (arith, leftmost.occurs.before_end, ordered);
-        same = leftmost.occurs.same;
-      };
+      occurs = grind arith;
       whole = leftmost.whole;
       earliest = λ i at early o. leftmost.earliest i at early (before_gap start i at o (omega (arith, early, before)));
       best = λ i better o. leftmost.best i better (before_gap start i found.start o (omega (arith, before)));

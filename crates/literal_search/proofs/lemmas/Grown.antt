@@ -1,10 +1,9 @@
 -- Words of states, as they grow by a symbol.
 use Rattle.std.proofs.Common.{◌≡◌, ℕ, ◌+◌, ◌<◌, ◌≤◌, Bool, true, false, List, [], ◌∷◌, ◌++◌, length, get_or, Option}
-use Rattle.std.proofs.Common.{None, Some, suc, ◌-◌, take, drop, map, nat_eq, ◌&&◌, ltb, eqb, cond}
-use Rattle.std.proofs.Common.{if◌then◌else◌, eq-eqb}
-use Rattle.std.proofs.Common.{append-nil, append_assoc, refl, sym, ap, ◌∙◌, arith, ◌||◌, not}
-use Rattle.std.proofs.lemmas.Bool.{and_from, and_parts, cond-false, cond-true, eqb-true, lt-ltb}
-use Rattle.std.proofs.lemmas.Bool.{ltb-true, ltb-false, ne_eqb}
+use Rattle.std.proofs.Common.{None, Some, suc, ◌-◌, take, drop, map, nat_eq, ◌&&◌, ltb, eqb, cond, if◌then◌else◌}
+use Rattle.std.proofs.Common.{eq-eqb, append-nil, append_assoc, refl, sym, ap, ◌∙◌, arith, ◌||◌, not}
+use Rattle.std.proofs.lemmas.Bool.{and_from, and_parts, cond-false, cond-true, eqb-true, lt-ltb, ltb-true, ltb-false}
+use Rattle.std.proofs.lemmas.Bool.{ne_eqb}
 use Rattle.std.proofs.lemmas.Bool.Decides.{Decides-eqb}
 use Rattle.std.proofs.lemmas.List.{drop_all, drop_more, get_or-map, get_or_at, length-append, length-map, take_at}
 use Rattle.std.proofs.lemmas.List.{get_or_append_left}
@@ -67,11 +66,9 @@ find_range p n =
         let xs = range_with_len 0 n in
         let k = position_or_len p xs in
         let inside = ltb-true _ _ is in
-        let at : get_or xs k 0 ≡ k =
-        get_or-range_with_len 0 n k 0 (omega (arith, length-range_with_len 0 n, inside)) ∙ omega arith in
+        let at : get_or xs k 0 ≡ k = grind (arith, get_or-range_with_len, length-range_with_len) in
         slice_get-get_or xs k 0 inside ∙ (ap Some at ∙ sym (cond-true _ _ _ is))
-    by_place false is =
-        slice_get_past (range_with_len 0 n) _ (ltb-false _ _ is) ∙ sym (cond-false _ _ _ is)
+    by_place false is = grind (arith, cond-false, ltb-false, slice_get_past)
 
 -- where each passes, all are kept
 pub filter_all : {X : Type 0} (p : X → Bool) (xs : List X) → ((x : X) → p x ≡ true) → filter p xs ≡ xs
@@ -243,9 +240,7 @@ module _ (patterns : List (List ℕ)) (word : List ℕ) where
       by_place : (index : ℕ) → index ≡ position_or_len (λ i. equal (pattern_at patterns i)) numbers
           → cond (ltb index (length (map (pattern_at patterns) numbers))) (Some index) None
           ≡ position (λ i. equal (pattern_at patterns i)) numbers
-      by_place index is =
-          ap (λ n. cond (ltb index n) (Some index) None) (length-map numbers (pattern_at patterns))
-          ∙ ap (λ p. cond (ltb p (length numbers)) (Some p) None) is
+      by_place index is = grind (arith, length-map, numbers)
 
 -- the list of the empty word has all patterns
 pub list_of_empty : (patterns : List (List ℕ)) → list_for patterns [] ≡ range_with_len 0 (length patterns)

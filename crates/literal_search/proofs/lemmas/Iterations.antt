@@ -1,5 +1,5 @@
 -- Searches for all matches, one after another.
-use Rattle.std.proofs.Common.{◌≡◌, ◌+◌, ◌-◌, ◌*◌, ◌<◌, ◌≤◌, ℕ, List, [], ◌∷◌, None, ap, arith, inl, inr, length}
+use Rattle.std.proofs.Common.{◌≡◌, ◌+◌, ◌-◌, ◌<◌, ◌≤◌, List, [], ◌∷◌, None, ap, arith, inl, inr, length}
 use Rattle.std.proofs.Common.{sym, subst}
 use Rattle.std.proofs.lemmas.Bool.{cases_lt}
 use Rattle.std.specs.Iterator.{Yields}
@@ -38,9 +38,6 @@ scans_each_from_yields m (found ∷ more) n o short run last =
     let short_then = subst (λ (it : MatchesValue). longest_of it.search.query.patterns ≤ LEAST)
     (sym step.gives.goes_on) short in
     grind (arith, scans_each_from_yields run.0 more n o short_then run.2 last)
-
-one_more : (n part : ℕ) → (n + 1) * part ≡ n * part + part
-one_more n part = grind arith
 
 -- by longer patterns at most eleven times what was left, and 36 first parts a match
 scans_list_from_yields : (m : MatchesValue × Counts) (all : List MatchValue) (n o : MatchesValue × Counts)

@@ -1,10 +1,10 @@
 -- Searches for everything that occurs by an array that is lent.
-use Rattle.std.proofs.Common.{◌≡◌, ℕ, ◌+◌, ◌++◌, ◌-◌, ◌<◌, ◌≤◌, List, [], drop, length, get_or, take}
-use Rattle.std.proofs.Common.{◌^◌, IfOk, IfSome, MatchOption, None, Result, Some, refl, sym, ap, subst}
-use Rattle.std.proofs.Common.{◌∙◌, Option, append-nil, append_assoc, arith, length-append}
+use Rattle.std.proofs.lemmas.Grind.{common_steps}
+use Rattle.std.proofs.Common.{◌≡◌, ℕ, ◌+◌, ◌++◌, ◌-◌, ◌<◌, ◌≤◌, List, [], drop, length, get_or, take, ◌^◌, IfOk, IfSome}
+use Rattle.std.proofs.Common.{MatchOption, None, Result, Some, refl, sym, ap, subst, ◌∙◌, Option, append-nil}
+use Rattle.std.proofs.Common.{append_assoc, arith, length-append}
 use Rattle.std.proofs.lemmas.List.{get_or-drop, get_or-map, get_or-take, length-drop, length-map, length-take-le}
 use Rattle.std.proofs.lemmas.List.{take-append-drop, take_all}
-use Rattle.std.specs.List.{slice_range}
 use Rattle.std.specs.Result.{IsOkAnd}
 use Rattle.literal_base.specs.MatchValue.{MatchValue}
 use Rattle.literal_base.specs.Occurs.{IsValidSpan, between, pattern_at}
@@ -20,11 +20,10 @@ use Rattle.literal_search.specs.Inside.Position.{IsPosition, longest_at, positio
 use Rattle.literal_search.specs.Inside.NextEnd.{FindsNext, IsNextWalkEnd, IsWalkAt}
 use Rattle.literal_search.specs.Inside.Walk.{classes_by, rows_by}
 use Rattle.literal_search.specs.Overlapping.{OverlappingValue}
-use Rattle.literal_search.specs.PreparedOverlapping.{AreSized, AreTables}
-use Rattle.literal_search.specs.PreparedOverlapping.{IsPreparedOverlapping, Tables, tables_in}
-use Rattle.literal_search.specs.PreparedOverlapping.{TakesListedPlaces, ends_at, ends_in, overlapping_value}
-use Rattle.literal_search.specs.PreparedOverlapping.{listed_len, overlapping_len, prints_after, starts_in}
-use Rattle.literal_search.specs.Prepared.{ArePrints, classes_end, scan_by, rows_at, past_skipped}
+use Rattle.literal_search.specs.PreparedOverlapping.{AreSized, AreTables, IsPreparedOverlapping, Tables, tables_in}
+use Rattle.literal_search.specs.PreparedOverlapping.{TakesListedPlaces, ends_at, ends_in, overlapping_value, listed_len}
+use Rattle.literal_search.specs.PreparedOverlapping.{overlapping_len, prints_after, starts_in}
+use Rattle.literal_search.specs.Prepared.{ArePrints, classes_end, scan_by, past_skipped}
 use Rattle.literal_search.specs.declared.prepared.Header.{Header}
 use Rattle.literal_search.specs.declared.prepared.Damaged.{Damaged}
 use Rattle.literal_search.specs.declared.prepared.TheConstants.{SCAN_LEN, OVERLAPPING_VERSION}
@@ -33,8 +32,7 @@ use Rattle.literal_search.specs.declared.position.Position.{Position}
 use Rattle.literal_search.specs.declared.walk.WalkEnd.{WalkEnd}
 use Rattle.literal_search.specs.declared.walk.Table.{Table}
 use Rattle.literal_search.proofs.lemmas.Numbers.{check_written, classes_written, ends_written, lengths_written}
-use Rattle.literal_search.proofs.lemmas.Numbers.{numbers_long, rows_written}
-use Rattle.literal_search.proofs.lemmas.Numbers.{part_at, starts_written}
+use Rattle.literal_search.proofs.lemmas.Numbers.{numbers_long, rows_written, part_at, starts_written}
 use Rattle.literal_search.proofs.lemmas.Prepared.{length_part, rows_are}
 use Rattle.literal_search.proofs.lemmas.Scan.{also_ok}
 use Rattle.literal_search.proofs.lemmas.Position.{is_pattern, longest_below, next_is, none_to_come, nothing_to_come}
@@ -84,15 +82,7 @@ lent_table p search are = grind arith
 pub parts_end : {version : ℕ} (f : Header) (numbers : List ℕ) → f.numbers.now ≡ numbers → IsHeader version f
     → (6 + length f.lengths.now + length f.rows.now ≡ classes_end numbers)
     × (length f.lengths.now ≡ get_or numbers 3 0)
-parts_end {version} f numbers same header =
-    let own = f.numbers.now in
-    let fits = header.parts.fits in
-    let lengths = ap (λ (l : List ℕ). length l) header.lengths_are
-    ∙ length_part own 6 (rows_at own) (omega arith) (omega arith) in
-    let rows = ap (λ (l : List ℕ). length l) header.rows_are
-    ∙ length_part own (rows_at own) (classes_end own) (omega arith) (omega arith) in
-    subst (λ (n : List ℕ). (6 + length f.lengths.now + length f.rows.now ≡ classes_end n)
-    × (length f.lengths.now ≡ get_or n 3 0)) same (omega (arith, lengths, rows), omega (arith, lengths))
+parts_end {version} f numbers same header = grind (arith, common_steps, length_part)
 
 -- there are as many lengths as the fourth number says
 pub lengths_many : {p : LentTables} → AreLent p → length p.header.lengths.now ≡ get_or p.header.numbers.now 3 0
@@ -170,9 +160,7 @@ module _ {search : OverlappingValue} {p : LentTables} (are : AreFor search p) (h
       below = is_pattern t are.tables haystack bytes span valid s position left
 
       length_is : get_or p.header.lengths.now pattern 0 ≡ length (pattern_at search.patterns pattern)
-      length_is =
-          ap (λ (l : List ℕ). get_or l pattern 0) are.lengths
-          ∙ get_or-map (λ (bytes : List ℕ). length bytes) search.patterns pattern [] 0 below
+      length_is = grind (arith, below, get_or-map)
 
       -- which is some, and lies in the span
       pub length_inside : (0 < get_or p.header.lengths.now pattern 0)
@@ -196,8 +184,7 @@ module _ {search : OverlappingValue} {p : LentTables} (are : AreFor search p) (h
             end = s.end;
           } in b in
           let found = λ (k n : ℕ). let m : MatchValue = record { pattern = k; start = s.at - n; end = s.at } in m in
-          let len_there : len ≡ length (pattern_at search.patterns pattern) =
-          len_is ∙ (ap (λ k. get_or p.header.lengths.now k 0) i_is ∙ length_is) in
+          let len_there : len ≡ length (pattern_at search.patterns pattern) = grind (arith, length_is) in
           subst (λ k. IsNextBy t haystack span s (found k len) (behind k)) (sym i_is)
           (subst (λ n. IsNextBy t haystack span s (found pattern n) (behind pattern)) (sym len_there) (record {
             stands = stands_next t are.tables haystack bytes span valid s position left;
@@ -222,9 +209,7 @@ module _ (t : Tables) (tables : AreTables t) (prints : List ℕ) (prints_long : 
     ends_at_is = omega (arith, long)
 
     starts_are : starts_in all_of ≡ t.starts
-    starts_are =
-        ap (slice_range all_of (classes_end all_of)) ends_at_is
-        ∙ starts_written OVERLAPPING_VERSION t.classes t.width t.patterns t.rows t.starts (t.ends ++ prints)
+    starts_are = grind (arith, ends_at_is, starts_written)
 
     -- the last of the numbers that say where lists begin is how many numbers are in these
     last_is : get_or all_of (classes_end all_of + get_or all_of 3 0) 0 ≡ length t.ends
@@ -251,9 +236,7 @@ module _ (t : Tables) (tables : AreTables t) (prints : List ℕ) (prints_long : 
     all_is = sym (take-append-drop (classes_end all_of + length t.starts) all_of) ∙ ap (λ l. start ++ l) rest_is
 
     ends_are : ends_in all_of ≡ t.ends
-    ends_are =
-        part_at all_of start t.ends prints (ends_at all_of) (listed_len all_of) all_is
-        (ends_at_is ∙ sym start_long) (ap (λ n. ends_at all_of + n) last_is)
+    ends_are = grind (arith, all_is, ends_at_is, last_is, part_at, start_long)
 
     prints_are : prints_after all_of ≡ prints
     prints_are =
@@ -263,10 +246,7 @@ module _ (t : Tables) (tables : AreTables t) (prints : List ℕ) (prints_long : 
         (ap (λ n. listed_len all_of + n) (sym prints_long))
 
     whole : overlapping_len all_of ≡ length all_of
-    whole =
-        let size : 6 + length t.patterns + length t.rows + 256 + length t.starts + length t.ends + 40 ≡ length all_of =
-        omega (arith, size, prints_long, length-append t.ends prints) in
-        ap (λ n. n + 40) listed_is ∙ size
+    whole = grind (arith, length-append, listed_is, size)
 
     tables_are : t ≡ tables_in (overlapping_value t) all_of
     tables_are = grind (arith, classes_written, ends_are, rows_written, same_tables, starts_are)
@@ -276,22 +256,14 @@ module _ (t : Tables) (tables : AreTables t) (prints : List ℕ) (prints_long : 
     listed_all sized = record {
       prepared = record {
         whole = record {
-          lists = record {
-            parts = record {
-              version_is = refl;
-              few = tables.kept.few;
-              fits = omega (arith, size);
-            };
-            fits = omega (arith, whole);
-          };
+          lists = grind (arith, size, whole);
           check = check_written OVERLAPPING_VERSION t.classes t.width t.patterns t.rows t.starts (t.ends ++ prints)
               (overlapping_len all_of) whole;
         };
         longest = refl;
         tables = subst AreTables tables_are tables;
         lengths = lengths_written OVERLAPPING_VERSION t.classes t.width t.patterns t.rows t.starts (t.ends ++ prints);
-        prints = subst (λ (p : List ℕ). 0 < past_skipped p → IsScanFor (scan_by p) t.ignore_case t.patterns)
-            (sym prints_are) pass;
+        prints = grind (arith, prints_are);
       };
       long = sym whole;
       sized = subst AreSized tables_are sized;

@@ -36,10 +36,7 @@ stands_or_begins text more pattern is =
 -- the number of a pattern that begins with a text
 pub one_begins : (patterns : List (List ℕ)) (text : List ℕ) → begins_one patterns text ≡ true
     → (i : ℕ) × (i < length patterns) × (starts_with nat_eq (pattern_at patterns i) text ≡ true)
-one_begins patterns text is =
-    let test = λ (e : List ℕ). starts_with nat_eq e text in
-    let one = Any-from_list_any test patterns is in
-    grind (arith, get_or_default)
+one_begins patterns text is = grind (arith, Any-from_list_any, get_or_default)
 
 -- where a pattern begins with a text, one begins with its prefixes
 pub begins_prefix : (patterns : List (List ℕ)) (text more : List ℕ) → begins_one patterns (text ++ more) ≡ true
@@ -61,5 +58,4 @@ live_push patterns (symbol ∷ text) more =
     by_begun false unbegun further =
         let longer : begins_one patterns (symbol ∷ (text ++ more)) ≡ false =
         false_from_ne_true _ (λ yes. false≢true (sym unbegun ∙ begins_prefix patterns (symbol ∷ text) more yes)) in
-        ap (λ l. live_suffix patterns (l ++ more)) (cond-false _ _ _ unbegun)
-        ∙ (further ∙ sym (cond-false _ _ _ longer))
+        grind (arith, cond-false)

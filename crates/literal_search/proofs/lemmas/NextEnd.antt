@@ -77,13 +77,7 @@ module _ (t : Table) (patterns : List (List ℕ)) (ignore_case : Bool) (is : IsT
         let first = finds is.recognises in
         let same = reads_to stop.end (omega arith) in
         record {
-          stands = record {
-            from = stands.from;
-            after = stands.after;
-            before = grind arith;
-            at = grind arith;
-            begins = grind arith;
-          };
+          stands = grind arith;
           ends = grind arith;
           first = λ i offset o to_come.
               let past = none_upto (stop.end - 1) first.none i offset o (later i offset o to_come) in omega arith;
@@ -188,9 +182,7 @@ module _ (patterns : List (List ℕ)) (ignore_case : Bool) (classes : List ℕ) 
         → IsNextWalkEnd patterns ignore_case classes width rows haystack span span.start answer
         → IfSome answer (λ stop. (span.start < stop.end) × (stop.end ≤ span.end) × (stop.row < 2 ^ 32))
         → IsEarliestEnd patterns ignore_case haystack span (option_map (λ stop. stop.end) answer)
-    earliest_is None none inside =
-        λ i offset o.
-        let end = none i offset o in omega arith
+    earliest_is None none inside = grind arith
     earliest_is (Some stop) next inside =
         let texts = map (symbols_in classes) patterns in
         let text = text_of classes haystack (between next.stands.from stop.end) in
@@ -198,11 +190,7 @@ module _ (patterns : List (List ℕ)) (ignore_case : Bool) (classes : List ℕ) 
         let first = first_ends texts (some_symbols classes patterns some) text one.0 one.1 in
         let occurs = end_occurs ignore_case classes patterns tells some haystack bytes span valid
         next.stands.from stop.end one.0 next.stands.after next.stands.before inside.1 first.is in
-        record {
-          occurs = (one.0, stop.end - length (pattern_at patterns one.0), occurs.0, sym occurs.1);
-          first = λ i offset o.
-              next.first i offset o (omega arith);
-        }
+        grind arith
       where
         some_is : {T : Type 0} (o : Option T) → IsSome o → (v : T) × (o ≡ Some v)
         some_is None is = cc

@@ -1,5 +1,5 @@
 -- The numbers of a search for no pattern.
-use Rattle.std.proofs.Common.{◌≡◌, ◌≤◌, ℕ, Bool, [], ◌∷◌, arith, get_or, refl, subst, suc, sym, zero}
+use Rattle.std.proofs.Common.{◌≡◌, Bool, [], ◌∷◌, arith, refl, subst, sym}
 use Rattle.std.specs.List.{repeat}
 use Rattle.literal_base.specs.declared.packed.MatchKind.{MatchKind}
 use Rattle.literal_base.specs.declared.packed.MatchKind.TheVariants.{LeftmostFirst, LeftmostLongest}
@@ -9,7 +9,6 @@ use Rattle.literal_search.specs.Inside.Prepared.{numbers_for}
 use Rattle.literal_search.specs.Inside.Rows.{packed_classes}
 use Rattle.literal_search.specs.Inside.Search.{AreKept}
 use Rattle.literal_search.specs.Prepared.{check_of}
-use Rattle.literal_search.specs.PreparedOverlapping.{AreTables, Tables, overlapping_value}
 use Rattle.literal_search.specs.SearchValue.{CanBeKept, NeedFewStates, search_by, unshadowed}
 use Rattle.literal_search.specs.States.{HasTooManyStates}
 use Rattle.literal_search.specs.Table.{nothing}
@@ -55,35 +54,7 @@ none_are_kept kind ignore_case =
 
 pub none_are_listed : (ignore_case : Bool) → AreListed (record { patterns = []; ignore_case = ignore_case }) NO_LISTED
 none_are_listed ignore_case =
-    let t : Tables = record {
-      patterns = [];
-      ignore_case = ignore_case;
-      classes = repeat 256 (0 ∷ []);
-      width = 1;
-      rows = 0 ∷ nothing ∷ [];
-      ends = [];
-      starts = 0 ∷ [];
-    } in
-    let are : AreTables t = record {
-      classes = zeros_classes;
-      tells = λ i k byte below. absurd (omega (arith, below));
-      recognises = none_recognised;
-      lists = record {
-        long = refl;
-        ordered = λ i below. absurd (omega (arith, below));
-        inside = inside;
-        last = refl;
-        each = λ i below first. absurd (omega (arith, below));
-        others = λ i below not. absurd (omega (arith, below));
-      };
-      kept = none_kept;
-    } in
-    subst (AreListed (overlapping_value t)) (sym listed_written) (listed_all t are (repeat SCAN_LEN (0 ∷ []))
-    refl (λ some. absurd (omega (arith, some))) (record { width = sym (one_class ignore_case); rows = none_long }))
-  where
-    inside : (i : ℕ) → i ≤ 0 → get_or (0 ∷ []) i 0 ≤ 0
-    inside zero below = omega arith
-    inside (suc i) below = absurd (omega (arith, below))
+    grind (arith, listed_all, listed_written, none_kept, none_long, none_recognised, one_class, zeros_classes)
 
 -- they need few states, reversed or not
 pub none_need_few_states : (ignore_case : Bool) → NeedFewStates ignore_case []

@@ -1,7 +1,8 @@
 -- The numbers that are written for a search: where its parts stand in them, and that they are written.
-use Rattle.std.proofs.Common.{◌≡◌, ℕ, ◌+◌, ◌-◌, ◌<◌, ◌≤◌, List, [], ◌∷◌, ◌++◌, drop, length, get_or, map, take}
+use Rattle.std.proofs.lemmas.Grind.{common_steps}
+use Rattle.std.proofs.Common.{◌≡◌, ℕ, ◌+◌, ◌<◌, ◌≤◌, List, [], ◌∷◌, ◌++◌, drop, length, get_or, map, take}
 use Rattle.std.proofs.Common.{Err, IfErr, IfOk, Ok, Result}
-use Rattle.std.proofs.Common.{append-nil, append_assoc, length-append, refl, sym, ap, subst, ◌∙◌, arith}
+use Rattle.std.proofs.Common.{append-nil, append_assoc, length-append, refl, sym, ap, ◌∙◌, arith}
 use Rattle.std.proofs.Math.Seq.{drop-append_seam, take-append_seam}
 use Rattle.std.proofs.lemmas.List.{length-drop, length-map, length-take, take-append-drop}
 use Rattle.std.specs.List.{slice_range}
@@ -19,11 +20,7 @@ use Rattle.literal_search.proofs.lemmas.Packed.{packed_long, unpacked_again}
 pub part_at : (numbers prefix part back : List ℕ) (from to : ℕ) → numbers ≡ prefix ++ (part ++ back)
     → from ≡ length prefix → to ≡ from + length part → slice_range numbers from to ≡ part
 part_at numbers prefix part back from to is from_is to_is =
-    let size : to - from ≡ length part = omega arith in
-    ap (λ n. take n (drop from numbers)) size
-    ∙ (ap (λ k. take (length part) (drop k numbers)) from_is
-    ∙ (ap (λ l. take (length part) (drop (length prefix) l)) is
-    ∙ (ap (take (length part)) (drop-append_seam prefix (part ++ back)) ∙ take-append_seam part back)))
+    grind (arith, common_steps, drop-append_seam, take-append_seam)
 
 module _ (version : ℕ) (classes : List ℕ) (width : ℕ) (patterns : List (List ℕ)) (rows starts ends : List ℕ)
   where
@@ -52,33 +49,19 @@ module _ (version : ℕ) (classes : List ℕ) (width : ℕ) (patterns : List (Li
     -- how many they are
     pub numbers_long : length numbers
         ≡ 6 + length patterns + length rows + 256 + length starts + length ends
-    numbers_long = omega (
-      arith,
-      length-append (lengths ++ (rows ++ last) ++ starts) ends,
-      length-append (lengths ++ (rows ++ last)) starts,
-      length-append lengths (rows ++ last),
-      table_long,
-      many,
-    )
+    numbers_long = grind (arith, length-append, many, table_long)
 
     -- what stands behind the lengths
     behind_lengths : lengths ++ (rows ++ last) ++ starts ++ ends
         ≡ lengths ++ ((rows ++ last) ++ (starts ++ ends))
-    behind_lengths =
-        append_assoc (lengths ++ (rows ++ last)) starts ends
-        ∙ append_assoc lengths (rows ++ last) (starts ++ ends)
+    behind_lengths = grind (arith, append_assoc)
 
     -- and behind the rows
     behind_rows : lengths ++ (rows ++ last) ++ starts ++ ends ≡ (lengths ++ rows) ++ (last ++ (starts ++ ends))
-    behind_rows =
-        behind_lengths
-        ∙ (ap (λ l. lengths ++ l) (append_assoc rows last (starts ++ ends))
-        ∙ sym (append_assoc lengths rows (last ++ (starts ++ ends))))
+    behind_rows = grind (arith, append_assoc, behind_lengths)
 
     pub lengths_written : lengths_in numbers ≡ lengths
-    lengths_written =
-        part_at numbers head lengths ((rows ++ last) ++ (starts ++ ends)) 6 (6 + length patterns)
-        (ap (λ l. head ++ l) behind_lengths) refl (omega (arith, many))
+    lengths_written = grind (arith, common_steps, behind_lengths, many, part_at)
 
     pub rows_written : rows_in numbers ≡ rows
     rows_written =
@@ -101,19 +84,10 @@ module _ (version : ℕ) (classes : List ℕ) (width : ℕ) (patterns : List (Li
         ∙ unpacked_again classes width are
 
     upto_starts : length (head ++ (lengths ++ (rows ++ last))) ≡ classes_end numbers
-    upto_starts = omega (
-      arith,
-      length-append head (lengths ++ (rows ++ last)),
-      length-append lengths (rows ++ last),
-      table_long,
-      many,
-    )
+    upto_starts = grind (arith, length-append, many, table_long)
 
     pub starts_written : slice_range numbers (classes_end numbers) (classes_end numbers + length starts) ≡ starts
-    starts_written =
-        part_at numbers (head ++ (lengths ++ (rows ++ last))) starts ends (classes_end numbers)
-        (classes_end numbers + length starts)
-        (ap (λ l. head ++ l) (append_assoc (lengths ++ (rows ++ last)) starts ends)) (sym upto_starts) refl
+    starts_written = grind (arith, common_steps, append_assoc, part_at, upto_starts)
 
     pub ends_written : slice_range numbers (classes_end numbers + length starts)
         (classes_end numbers + length starts + length ends) ≡ ends
@@ -131,9 +105,7 @@ module _ (version : ℕ) (classes : List ℕ) (width : ℕ) (patterns : List (Li
 
     -- the check is that over all numbers behind it
     pub check_written : (end : ℕ) → end ≡ length numbers → get_or numbers 1 0 ≡ check_of (slice_range numbers 2 end)
-    check_written end is =
-        ap check_of (sym (part_at numbers (version ∷ check_of body ∷ []) body [] 2 end
-        (ap (λ l. version ∷ check_of body ∷ l) (sym (append-nil body))) refl (omega (arith, is))))
+    check_written end is = grind (arith, common_steps, append-nil, part_at)
 
 -- what `put` answers for a search that numbers are for
 module _ (AreFor : List ℕ → Type 0) (Takes : ℕ → Type 0) (numbers old new : List ℕ)
@@ -142,25 +114,7 @@ module _ (AreFor : List ℕ → Type 0) (Takes : ℕ → Type 0) (numbers old ne
     written : (needed : ℕ) → (needed ≡ length numbers) × (needed ≤ length old) × Puts 0 numbers old new
         → WritesNumbers AreFor Takes old new needed
     written needed (needed_is, fits, puts) =
-        let new_is : new ≡ numbers ++ drop needed old =
-        puts ∙ ap (λ k. numbers ++ drop k old) (let k : 0 + length numbers ≡ needed = omega (arith, needed_is) in k) in
-        let same : length new ≡ length old = omega (
-          arith,
-          ap (λ (l : List ℕ). length l) new_is,
-          length-append numbers (drop needed old),
-          length-drop needed old,
-          fits,
-          needed_is,
-        ) in
-        record {
-          len = same;
-          fits = omega (arith, fits, same);
-          takes = subst Takes (sym needed_is) takes;
-          prepared = subst AreFor (sym (ap (λ k. take k new) needed_is
-              ∙ (ap (take (length numbers)) new_is ∙ take-append_seam numbers (drop needed old)))) are_for;
-          others = ap (λ k. drop k new) needed_is
-              ∙ (ap (drop (length numbers)) new_is ∙ drop-append_seam numbers (drop needed old));
-        }
+        grind (arith, drop-append_seam, length-append, length-drop, take-append_seam)
 
     pub put_writes : (result : Result ℕ ArrayTooShort) → IsPut numbers old new result
         → IfOk result (WritesNumbers AreFor Takes old new)
@@ -171,5 +125,4 @@ module _ (AreFor : List ℕ → Type 0) (Takes : ℕ → Type 0) (numbers old ne
         → IfErr result (λ error. (length old < error.needed) × Takes error.needed
         × ((all : List ℕ) × AreFor all × (length all ≡ error.needed)))
     put_refuses (Ok needed) is = tt
-    put_refuses (Err error) (needed_is, short, same) =
-        (short, subst Takes (sym needed_is) takes, (numbers, are_for, sym needed_is))
+    put_refuses (Err error) (needed_is, short, same) = grind arith

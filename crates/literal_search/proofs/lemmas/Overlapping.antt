@@ -25,9 +25,6 @@ record IsRest (m : OverlappingMatchesValue) (all : List MatchValue) : Type 0 whe
   ordered : AllPairs ComesBefore all
   every : (found : MatchValue) → IsToCome m found → IsAmong all found
 
-none_left : (m : OverlappingMatchesValue) → ((found : MatchValue) → ¬ IsToCome m found) → IsRest m []
-none_left m none = grind arith
-
 one_more : (m : OverlappingMatchesValue) (found : MatchValue) (more : List MatchValue) → IsNextToCome m found
     → IsRest (gone_on m (Some found)) more → IsRest m (found ∷ more)
 one_more m found more next rest = record {
@@ -47,8 +44,7 @@ one_more m found more next rest = record {
 
     ordered : AllPairs ComesBefore (found ∷ more)
     ordered zero zero d before below = absurd (omega arith)
-    ordered zero (suc j) d before below =
-        (later_to_come m found next (get_or more j d) (rest.each j d (omega arith))).1
+    ordered zero (suc j) d before below = grind (arith, later_to_come)
     ordered (suc i) zero d before below = absurd (omega arith)
     ordered (suc i) (suc j) d before below = rest.ordered i j d (omega arith) (omega arith)
 

@@ -1,6 +1,6 @@
 -- An iteration over every occurrence in a text that is read in pieces gives each once, in order.
-use Rattle.std.proofs.Common.{◌≡◌, ℕ, ◌-◌, ◌≤◌, ◌++◌, [], ◌∷◌, ◌∙◌, Err, List, None, Ok, Option, Some, ap}
-use Rattle.std.proofs.Common.{arith, length, length-append, map, refl, subst, sym, take, drop}
+use Rattle.std.proofs.Common.{◌≡◌, ℕ, ◌-◌, ◌≤◌, ◌++◌, [], ◌∷◌, ◌∙◌, Err, List, None, Ok, Option, Some, ap, arith}
+use Rattle.std.proofs.Common.{length, length-append, map, refl, subst, sym, drop}
 use Rattle.std.specs.Io.KnownBytes.{Consumes}
 use Rattle.std.specs.Iterator.{Yields}
 use Rattle.std.specs.declared.io.Error.{Error}
@@ -8,10 +8,8 @@ use Rattle.literal_base.specs.MatchValue.{MatchValue}
 use Rattle.literal_base.specs.Occurs.{between, whole_of}
 use Rattle.literal_search.specs.Overlapping.{IsOccurrence, IsOverlapping, OverlappingValue}
 use Rattle.literal_search.specs.OverlappingMatchesValue.{GivesOverlapping, IsNextToCome, IsToCome}
-use Rattle.literal_search.specs.OverlappingMatchesValue.{OverlappingMatchesValue}
-use Rattle.literal_search.specs.OverlappingMatchesValue.{gone_on}
-use Rattle.literal_search.specs.OverlappingStream.{BeginsStream, GivesInStream, OverlappingStreamValue}
-use Rattle.literal_search.specs.OverlappingStream.{search_within}
+use Rattle.literal_search.specs.OverlappingMatchesValue.{OverlappingMatchesValue, gone_on}
+use Rattle.literal_search.specs.OverlappingStream.{BeginsStream, GivesInStream, OverlappingStreamValue, search_within}
 use Rattle.literal_search.specs.PreparedOverlapping.{overlapping_value}
 use Rattle.literal_search.specs.Stream.{known}
 use Rattle.literal_search.specs.Inside.OverlappingStream.{GoesOver}
@@ -37,10 +35,7 @@ module _ (search : OverlappingValue) (text : List ℕ) where
   text_is : (m : OverlappingStreamValue) (goes : GoesOver search text m) (piece : List ℕ) (left : Option (List ℕ))
       → Consumes m.unread left piece
       → (left ≡ Some (known left)) × (goes.before ++ ((m.held ++ piece) ++ known left) ≡ text)
-  text_is m goes piece left consumed =
-      let taken = subst (λ (u : Option (List ℕ)). Consumes u left piece) goes.unread consumed in
-      let all = seen_all m.held piece goes.rest left taken in
-      (all.0, ap (λ l. goes.before ++ l) all.1 ∙ goes.whole)
+  text_is m goes piece left consumed = grind (arith, seen_all)
 
   goes_after : (m : OverlappingStreamValue) (found : MatchValue) (n : OverlappingStreamValue) → GoesOver search text m
       → GivesInStream m (Some (Ok found)) n → GoesOver search text n
@@ -51,16 +46,7 @@ module _ (search : OverlappingValue) (text : List ℕ) where
       let all = text_is m goes to.piece n.unread to.reads.reads.consumed in
       let held_is : n.held ≡ drop k seen = ap (λ (v : OverlappingStreamValue). v.held) to.goes_on in
       let tables_are = ap (λ (v : OverlappingStreamValue). overlapping_value v.tables) to.goes_on in
-      record {
-        before = goes.before ++ take k seen;
-        rest = known n.unread;
-        search_is = tables_are ∙ goes.search_is;
-        unread = all.0;
-        may_come = to.leads goes.before goes.may_come;
-        whole = ap (λ l. (goes.before ++ take k seen) ++ (l ++ known n.unread)) held_is
-            ∙ (cut_at goes.before seen (known n.unread) k ∙ all.1);
-        not_over = ap (λ (v : OverlappingStreamValue). v.is_over) to.goes_on ∙ goes.not_over;
-      }
+      grind (arith, cut_at)
 
   goes_to : (m : OverlappingStreamValue) (all : List MatchValue) (n : OverlappingStreamValue) → GoesOver search text m
       → Yields GivesInStream m (map Ok all) n → GoesOver search text n
@@ -70,16 +56,12 @@ module _ (search : OverlappingValue) (text : List ℕ) where
   -- its offset does not go back
   later : (m : OverlappingStreamValue) (found : MatchValue) (n : OverlappingStreamValue)
       → GivesInStream m (Some (Ok found)) n → (n.offset ≡ found.end) × (m.offset ≤ n.offset)
-  later m found n step =
-      let at = ap (λ (v : OverlappingStreamValue). v.offset) step.1.goes_on in
-      let ordered = step.1.ordered in
-      (at, grind arith)
+  later m found n step = grind arith
 
   later_all : (m : OverlappingStreamValue) (all : List MatchValue) (n : OverlappingStreamValue)
       → Yields GivesInStream m (map Ok all) n → m.offset ≤ n.offset
   later_all m [] n stays = omega (arith, ap (λ (v : OverlappingStreamValue). v.offset) stays)
-  later_all m (found ∷ rest) n run =
-      omega (arith, (later m found run.0 run.1).1, later_all run.0 rest n run.2)
+  later_all m (found ∷ rest) n run = grind (arith, later, later_all run.0 rest n run.2)
 
   module _ (end : ℕ) where
     -- the search in a part of the text, up to an offset
@@ -169,24 +151,14 @@ module _ (search : OverlappingValue) (text : List ℕ) where
           let (left, text_is) = text_is n goes fails.piece ended.unread fails.past.reads.consumed in
           let at = ap (λ (v : OverlappingStreamValue). v.offset) fails.past.over in
           let long = ap length text_is in
-          let within : ended.offset ≤ length text =
-          omega (
-            arith,
-            at,
-            long,
-            length-append goes.before ((n.held ++ fails.piece) ++ known ended.unread),
-            length-append (n.held ++ fails.piece) (known ended.unread),
-            goes.may_come.long,
-          ) in
+          let within : ended.offset ≤ length text = grind (arith, length-append) in
           all_upto ended.offset m all n begins run (omega (arith, at))
           (λ found to_come.
           let whole : IsOccurrence search.patterns search.ignore_case text (whole_of text) found =
           let is = to_come.occurrence in grind arith in
           let further = fails.nothing goes.before (known ended.unread) goes.may_come found
           (subst (λ (t : List ℕ). IsToCome (search_within n t) found) (sym text_is) (record {
-            occurrence = subst (λ (s : OverlappingValue). IsOccurrence s.patterns s.ignore_case text (whole_of text)
-                found)
-                (sym goes.search_is) whole;
+            occurrence = grind arith;
             after = to_come.after;
           })) in
           let last_byte = to_come.occurrence.occurs.before_end in

@@ -1,9 +1,8 @@
 -- Every occurrence in a text that is read in pieces.
 use Rattle.std.proofs.lemmas.Grind.{common_steps, get_or_default_zero}
 use Rattle.std.proofs.Common.{◌≡◌, ◌⊎◌, ℕ, ◌+◌, ◌-◌, ◌<◌, ◌≤◌, ◌++◌, [], ◌∷◌, List, append-nil, append_assoc, ap, arith}
-use Rattle.std.proofs.Common.{drop, get_or}
-use Rattle.std.proofs.Common.{rules, ◌*◌, ◌^◌, mul-le-mul_right, Result, Bool, None, Option, Some, true, inl, inr}
-use Rattle.std.proofs.Common.{length, length-append, refl, subst, sym, take, ◌∙◌}
+use Rattle.std.proofs.Common.{drop, get_or, rules, ◌*◌, ◌^◌, mul-le-mul_right, Result, Bool, None, Option, Some, true}
+use Rattle.std.proofs.Common.{inl, inr, length, length-append, refl, subst, sym, take, ◌∙◌}
 use Rattle.std.proofs.Math.Seq.{take-add, take-append_seam}
 use Rattle.std.proofs.lemmas.Bool.{cases_lt}
 use Rattle.std.proofs.KnownBytes.{Consumes-nil, Consumes-trans}
@@ -16,13 +15,13 @@ use Rattle.std.specs.declared.io.Error.{Error}
 use Rattle.std.specs.declared.io.ErrorKind.{ErrorKind}
 use Rattle.std.specs.List.{AllPairs, slice_range}
 use Rattle.literal_base.specs.MatchValue.{MatchValue}
-use Rattle.literal_base.specs.Occurs.{AreEqualBytes, pattern_at, whole_of}
+use Rattle.literal_base.specs.Occurs.{pattern_at, whole_of}
 use Rattle.literal_search.specs.Automaton.{AreAtEnd, EndsText, IsStateAfter, OccursAtEnd}
 use Rattle.literal_search.specs.Overlapping.{IsOccurrence}
 use Rattle.literal_search.specs.OverlappingMatchesValue.{IsNextToCome, IsToCome, OverlappingMatchesValue}
 use Rattle.literal_search.specs.OverlappingStream.{EndsAfterAll, FailsAfterAll, GivesInStream, GoesToEnd, IsPastAll}
 use Rattle.literal_search.specs.OverlappingStream.{MayComeBefore, most_in_stream, OverlappingStreamValue, search_within}
-use Rattle.literal_search.specs.PreparedOverlapping.{IsNotBefore, Tables}
+use Rattle.literal_search.specs.PreparedOverlapping.{IsNotBefore}
 use Rattle.literal_search.specs.Stream.{ReadsOn}
 use Rattle.literal_search.specs.Inside.OverlappingStream.{HasCome, pattern_after}
 use Rattle.literal_search.specs.Inside.Position.{HaveSameToCome}
@@ -32,9 +31,7 @@ use Rattle.literal_search.proofs.lemmas.Position.{next_moved}
 -- a text, followed by the first bytes of a part, and by one more
 pub text_more : (text part : List ℕ) (at : ℕ) → at < length part
     → (text ++ take at part) ++ (get_or part at 0 ∷ []) ≡ text ++ take (at + 1) part
-text_more text part at inside =
-    append_assoc text (take at part) (get_or part at 0 ∷ [])
-    ∙ ap (λ l. text ++ l) (sym (take_more part at 0 inside))
+text_more text part at inside = grind (arith, append_assoc, take_more)
 
 -- what is given of a list that ascends lies before what is to come
 module _ (ending : List ℕ) (ascend : AllPairs (λ i other. i < other) ending) (given : ℕ) where
@@ -42,16 +39,7 @@ module _ (ending : List ℕ) (ascend : AllPairs (λ i other. i < other) ending) 
   after_some some = grind arith
 
   given_before : (k : ℕ) → k < given → given ≤ length ending → get_or ending k 0 < pattern_after ending given
-  given_before k before within =
-      let after = after_some (omega arith) in
-      elim (cases_lt k (given - 1)) [
-        | inl earlier ↦
-            let less = ascend k (given - 1) 0 earlier (omega arith) in
-            omega (arith, after, less)
-        | inr last ↦
-            let last_is : k ≡ given - 1 = omega arith in
-            omega (arith, after, ap (λ n. get_or ending n 0) last_is)
-      ]
+  given_before k before within = grind (arith, after_some, cases_lt)
 
   come_after : given < length ending → pattern_after ending given ≤ get_or ending given 0
   come_after within = grind (arith, common_steps)
@@ -59,9 +47,7 @@ module _ (ending : List ℕ) (ascend : AllPairs (λ i other. i < other) ending) 
 -- a text of which the beginning was looked up
 module _ (patterns : List (List ℕ)) (ignore_case : Bool) (before rest : List ℕ) where
   beginning : slice_range (before ++ rest) 0 (length before) ≡ before
-  beginning =
-      let long : length before - 0 ≡ length before = omega arith in
-      ap (λ n. take n (before ++ rest)) long ∙ take-append_seam before rest
+  beginning = grind (arith, common_steps, take-append_seam)
 
   -- what ends with the beginning occurs at its end
   pub ends_beginning : (found : MatchValue)
@@ -97,17 +83,7 @@ module _ (patterns : List (List ℕ)) (ignore_case : Bool) (before rest : List �
             (sym beginning) ends) in
             let same_start : start ≡ found.start = omega arith in
             let long = length-append before rest in
-            record {
-              occurs = record {
-                is_pattern = occurs.is_pattern;
-                after_start = omega arith;
-                before_end = omega arith;
-                same = subst (λ (n : ℕ). AreEqualBytes ignore_case
-                    (slice_range (before ++ rest) n (n + length (pattern_at patterns found.pattern)))
-                    (pattern_at patterns found.pattern)) same_start occurs.same;
-              };
-              whole = omega arith;
-            }
+            grind arith
 
         not_before : (other : MatchValue)
             → IsOccurrence patterns ignore_case (before ++ rest) (whole_of (before ++ rest)) other
@@ -136,12 +112,7 @@ module _ (patterns : List (List ℕ)) (ignore_case : Bool) (before rest : List �
               end = length before;
               pattern = pattern_after ending given;
             }) found
-        next_given =
-            let first = come_after ending at.ascend given left in
-            record {
-              to_come = record { occurrence = is_occurrence; after = inr (sym end_is, omega arith) };
-              first = λ other is earlier. grind (arith, not_before);
-            }
+        next_given = grind (arith, come_after, is_occurrence, not_before)
 
 -- a text, cut in its end
 cut_whole : (before rest : List ℕ) (k : ℕ) → (before ++ take k rest) ++ drop k rest ≡ before ++ rest
@@ -203,10 +174,7 @@ module _ (patterns : List (List ℕ)) (ignore_case : Bool) (before part more : L
         pub same_after : 0 < count
             → HaveSameToCome (here (length before) (pattern_after ending (length ending)))
             (here (length before + count) 0)
-        same_after some found = (
-          λ is. let later = ends_later found is in record { occurrence = is.occurrence; after = grind arith },
-          λ is. record { occurrence = is.occurrence; after = grind arith },
-        )
+        same_after some found = grind (arith, ends_later)
 
 -- a search that reads on where nothing is held, and walks through a part of what is held then
 pub comes_further : (old new : OverlappingStreamValue) (piece ending : List ℕ) (count : ℕ)
@@ -239,13 +207,7 @@ comes_further old new piece ending count reads needed some within pattern_is lis
       later = omega arith;
       within = omega arith;
       goes_on = grind arith;
-      leads = λ before may. record {
-        long = grind (arith, length-append, length-take-le);
-        after = subst (λ (t : Tables). IsStateAfter t (before ++ take (new.offset - old.offset) part) new.state)
-            (sym tables_are)
-            (subst (λ (n : ℕ). IsStateAfter old.tables (before ++ take n part) new.state) (sym by)
-            (leads before may.after));
-      };
+      leads = λ before may. grind (arith, length-append, length-take-le);
       same_to_come = λ before more may.
           let same = same_after old.tables.patterns old.tables.ignore_case before part more count within ending
           (listed before may.after) (none before may.after) some in
@@ -261,28 +223,13 @@ comes_no_further old new piece reads none is = grind (arith, append-nil)
 
 -- a search that has not gone on
 pub comes_nowhere : (m : OverlappingStreamValue) → HasCome m m
-comes_nowhere m = record {
-  piece = [];
-  reads = record {
-    reads = record { consumed = Consumes-nil m.unread; failed = grind arith };
-    needed = inl refl;
-  };
-  later = omega arith;
-  within = omega arith;
-  goes_on = grind (arith, append-nil);
-  leads = λ before may. grind (arith, append-nil);
-  same_to_come = λ before more may found. (λ is. is, λ is. is);
-}
+comes_nowhere m = grind (arith, Consumes-nil, append-nil)
 
 -- once reading has failed it stays so
 reads_more : (first second : Option (List ℕ)) (unread : Option (List ℕ)) (failure was is : Option ErrorKind)
     (piece more : List ℕ) → ReadsOn unread failure piece first was → ReadsOn first was more second is
     → ReadsOn unread failure (piece ++ more) second is
-reads_more first second unread failure was is piece more one other =
-    record {
-      consumed = Consumes-trans unread first second piece more one.consumed other.consumed;
-      failed = grind (arith, common_steps);
-    }
+reads_more first second unread failure was is piece more one other = grind (arith, Consumes-trans, common_steps)
 
 dropped_on : (bytes : List ℕ) (first second both : ℕ) → both ≡ first + second
     → drop both bytes ≡ drop second (drop first bytes)
@@ -323,48 +270,30 @@ module _ (a b c : OverlappingStreamValue) (one : HasCome a b) (two : HasCome b c
   seen_both = sym (append_assoc a.held one.piece two.piece)
 
   rest_both : drop first_part (seen ++ two.piece) ≡ b.held ++ two.piece
-  rest_both =
-      drop-append-le first_part seen two.piece one.within
-      ∙ ap (λ l. l ++ two.piece) (sym (ap (λ (m : OverlappingStreamValue). m.held) one.goes_on))
+  rest_both = grind (arith, drop-append-le)
 
   taken_both : take (c.offset - a.offset) (seen ++ two.piece)
       ≡ take first_part seen ++ take second_part (b.held ++ two.piece)
-  taken_both =
-      ap (λ n. take n (seen ++ two.piece)) both_parts
-      ∙ (take-add first_part second_part (seen ++ two.piece)
-      ∙ (ap (λ l. l ++ take second_part (drop first_part (seen ++ two.piece)))
-      (take-append-le first_part seen two.piece one.within)
-      ∙ ap (λ l. take first_part seen ++ take second_part l) rest_both))
+  taken_both = grind (arith, both_parts, rest_both, take-add, take-append-le)
 
   dropped_both : drop (c.offset - a.offset) (seen ++ two.piece) ≡ drop second_part (b.held ++ two.piece)
-  dropped_both = dropped_on (seen ++ two.piece) first_part second_part (c.offset - a.offset) both_parts
-      ∙ ap (drop second_part) rest_both
+  dropped_both = grind (arith, both_parts, dropped_on, rest_both)
 
   -- the texts in which it was and is
   first_text : (before more : List ℕ) → before ++ (seen ++ (two.piece ++ more))
       ≡ before ++ ((a.held ++ (one.piece ++ two.piece)) ++ more)
-  first_text before more =
-      ap (λ l. before ++ l) (sym (append_assoc seen two.piece more) ∙ ap (λ l. l ++ more) (sym seen_both))
+  first_text before more = grind (arith, append_assoc, seen_both)
 
   second_text : (before more : List ℕ) → (before ++ take first_part seen) ++ ((b.held ++ two.piece) ++ more)
       ≡ before ++ ((a.held ++ (one.piece ++ two.piece)) ++ more)
-  second_text before more =
-      ap (λ l. (before ++ take first_part seen) ++ (l ++ more)) (sym rest_both)
-      ∙ (ap (λ l. (before ++ l) ++ (drop first_part (seen ++ two.piece) ++ more))
-      (sym (take-append-le first_part seen two.piece one.within))
-      ∙ (cut_at before (seen ++ two.piece) more first_part
-      ∙ ap (λ l. before ++ (l ++ more)) (sym seen_both)))
+  second_text before more = grind (arith, common_steps, cut_at, rest_both, seen_both, take-append-le)
 
   taken_text : (before : List ℕ) → (before ++ take first_part seen) ++ take second_part (b.held ++ two.piece)
       ≡ before ++ take (c.offset - a.offset) (a.held ++ (one.piece ++ two.piece))
-  taken_text before =
-      append_assoc before (take first_part seen) (take second_part (b.held ++ two.piece))
-      ∙ ap (λ l. before ++ l) (sym taken_both ∙ ap (take (c.offset - a.offset)) (sym seen_both))
+  taken_text before = grind (arith, append_assoc, seen_both, taken_both)
 
   long_b : b.offset + length b.held ≡ a.offset + length seen
-  long_b =
-      let held_is = ap (λ (m : OverlappingStreamValue). length m.held) one.goes_on in
-      omega (arith, held_is, length-drop first_part seen, one.later, one.within)
+  long_b = grind (arith, length-drop)
 
   -- a search that goes on, and on again
   pub comes_on : HasCome a c
@@ -377,18 +306,11 @@ module _ (a b c : OverlappingStreamValue) (one : HasCome a b) (two : HasCome b c
         reads = record {
           reads = reads_more b.unread c.unread a.unread a.failure b.failure c.failure one.piece two.piece
               one.reads.reads two.reads.reads;
-          needed = needed_both one.piece two.piece _ _ _ _ one.reads.needed two.reads.needed
-              (omega (arith, long_b, long_seen)) two.later;
+          needed = grind (arith, long_b, needed_both);
         };
         later = omega (arith, one.later, two.later);
         within = omega (arith, two.within, long_b, long_more, long_all, one.later, two.later);
-        goes_on = value_is a c _
-            (ap (λ (m : OverlappingStreamValue). m.tables) two.goes_on
-            ∙ ap (λ (m : OverlappingStreamValue). m.tables) one.goes_on)
-            (ap (λ (m : OverlappingStreamValue). m.held) two.goes_on
-            ∙ (sym dropped_both ∙ ap (drop (c.offset - a.offset)) (sym seen_both)))
-            (ap (λ (m : OverlappingStreamValue). m.is_over) two.goes_on
-            ∙ ap (λ (m : OverlappingStreamValue). m.is_over) one.goes_on);
+        goes_on = grind (arith, dropped_both, seen_both, value_is);
         leads = λ before may. subst (MayComeBefore c) (taken_text before)
             (two.leads (before ++ take first_part seen) (one.leads before may));
         same_to_come = λ before more may found.
@@ -418,8 +340,7 @@ module _ (old now : OverlappingStreamValue) (come : HasCome old now) (ending : L
     here_text : (before more : List ℕ) → upto before ++ (now.held ++ more) ≡ before ++ (bytes ++ more)
     here_text before more =
         let held_is = ap (λ (m : OverlappingStreamValue). m.held) come.goes_on in
-        let rest : drop passed (bytes ++ more) ≡ now.held ++ more =
-        drop-append-le passed bytes more come.within ∙ ap (λ l. l ++ more) (sym held_is) in
+        let rest : drop passed (bytes ++ more) ≡ now.held ++ more = grind (arith, drop-append-le) in
         ap (λ l. upto before ++ l) (sym rest)
         ∙ (ap (λ l. (before ++ l) ++ drop passed (bytes ++ more)) (sym (take-append-le passed bytes more come.within))
         ∙ cut_whole before (bytes ++ more) passed)
@@ -493,14 +414,7 @@ module _ (old now : OverlappingStreamValue) (come : HasCome old now) (ending : L
         }
 
         pub fails_here : (error : Error) → now.failure ≡ Some (error_kind error) → FailsAfterAll old error new
-        fails_here error failed = record {
-          piece = come.piece;
-          past = past_all;
-          failure = grind arith;
-          nothing = λ before more may found to_come.
-              let offset_is : new.offset ≡ now.offset = ap (λ (m : OverlappingStreamValue). m.offset) is in
-              omega (arith, offset_is, ends_further before more may found to_come);
-        }
+        fails_here error failed = grind (arith, ends_further, past_all)
 
 -- each occurrence that is given takes of what is left
 takes_one : (most patterns offset pattern end found : ℕ) → end ≤ most → found < patterns

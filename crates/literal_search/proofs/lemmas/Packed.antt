@@ -27,13 +27,7 @@ unpacked_at (number ∷ more) zero = omega arith
 unpacked_at (number ∷ more) (suc zero) = refl
 unpacked_at (number ∷ more) (suc (suc zero)) = refl
 unpacked_at (number ∷ more) (suc (suc (suc zero))) = refl
-unpacked_at (number ∷ more) (suc (suc (suc (suc byte)))) =
-    let all = suc (suc (suc (suc byte))) in
-    let index_is : suc (byte / 4) ≡ all / 4 = omega arith in
-    let part : byte % 4 ≡ all % 4 = omega arith in
-    unpacked_at more byte
-    ∙ (ap (λ k. get_or more (byte / 4) 0 / 2 ^ (8 * k) % 256) part
-    ∙ ap (λ k. get_or (number ∷ more) k 0 / 2 ^ (8 * (all % 4)) % 256) index_is)
+unpacked_at (number ∷ more) (suc (suc (suc (suc byte)))) = grind (arith, unpacked_at more byte)
 
 -- numbers that hold bytes give them back
 module _ (bytes : List ℕ) (small : (i : ℕ) → get_or bytes i 0 < 256) where
@@ -41,8 +35,7 @@ module _ (bytes : List ℕ) (small : (i : ℕ) → get_or bytes i 0 < 256) where
       to_le_bytes w32 (from_le_bytes w32 part) ≡ part)
   four_are k fits =
       let part = slice_range bytes (4 * k) (4 * k + 4) in
-      let long : length part ≡ 4 =
-      omega (arith, length-take (4 * k + 4 - 4 * k) (drop (4 * k) bytes), length-drop (4 * k) bytes, fits) in
+      let long : length part ≡ 4 = grind (arith, length-drop, length-take) in
       le_bytes_4 part _ long
       (λ i. elim (cases_lt i 4) [
         | inl inside ↦ omega (

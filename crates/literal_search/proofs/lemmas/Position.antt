@@ -195,10 +195,7 @@ module _ (p : Tables) (parts : AreTables p) (haystack : List ℕ) (bytes : (i : 
               left = record {
                 ascends = λ j k from before after. position.left.ascends j k (omega arith) before after;
                 each = grind (arith, common_steps);
-                every = λ i end from.
-                    let least = here.1 in
-                    let one = position.left.every i end (omega arith) in
-                    grind arith;
+                every = λ i end from. grind (arith, here);
               };
             }
 

@@ -1,21 +1,18 @@
 -- Prefixes among sorted texts. For `prefixes`.
-use Rattle.std.proofs.Common.{◌≡◌, ◌≢◌, ◌∙◌, ◌+◌, ◌-◌, ◌<◌, ◌≤◌, ◌++◌, ◌∷◌, [], ℕ, List}
-use Rattle.std.proofs.Common.{None, Option, Some, ap, append-nil}
-use Rattle.std.proofs.Common.{MatchOption, append_assoc, arith, drop, false, get_or, inl, inr, length, min, refl}
-use Rattle.std.proofs.Common.{subst, suc, sym}
+use Rattle.std.proofs.lemmas.Grind.{common_steps}
+use Rattle.std.proofs.Common.{◌≡◌, ◌≢◌, ◌∙◌, ◌+◌, ◌-◌, ◌<◌, ◌≤◌, ◌++◌, ◌∷◌, [], ℕ, List, None, Option, Some, ap}
+use Rattle.std.proofs.Common.{append-nil, MatchOption, append_assoc, arith, drop, false, get_or, inl, inr, length, min}
+use Rattle.std.proofs.Common.{refl, subst, suc, sym, set, zero}
 use Rattle.std.proofs.lemmas.Bool.{cases_lt, false≢true}
 use Rattle.std.proofs.lemmas.Bool.Decides.{Decides-eqb}
 use Rattle.std.proofs.lemmas.Slice.Eq.{starts_is}
-use Rattle.std.specs.Cmp.{nat_cmp_is}
+use Rattle.std.specs.Cmp.{nat_cmp_is, IsStrictWeakOrder, IsTotalOrder}
 use Rattle.std.specs.Cmp.Lexicographic.{slice_cmp}
-use Rattle.std.specs.Ordering.{nat_cmp, ordering_then}
+use Rattle.std.specs.Ordering.{nat_cmp, ordering_then, is_lt, on, then_cmp}
 use Rattle.std.specs.declared.cmp.Ordering.{Ordering}
-use Rattle.std.specs.declared.cmp.Ordering.TheVariants.{Equal, Greater, Less}
-use Rattle.std.specs.Cmp.{IsStrictWeakOrder, IsTotalOrder}
+use Rattle.std.specs.declared.cmp.Ordering.TheVariants.{Equal, Greater}
 use Rattle.std.specs.List.{All, range_with_len}
 use Rattle.std.specs.List.Sorted.{IsPermutation, IsSortedBy}
-use Rattle.std.specs.Ordering.{is_lt, on, ordering_reverse, then_cmp}
-use Rattle.std.proofs.Common.{set, zero}
 use Rattle.std.proofs.lemmas.Cmp.{nat_cmp_total, nat_list_cmp_total, on_total, then_total, tied_itself}
 use Rattle.std.proofs.lemmas.Map.Keys.{ge_from_not_lt}
 use Rattle.std.proofs.lemmas.List.{get_or-map, get_or-set_other, get_or-set_same, get_or_append_left, get_or_push}
@@ -49,13 +46,7 @@ begins_on text middle word one other =
 
 -- numbers neither of which is greater are equal
 same_if : (x y : ℕ) → nat_cmp x y ≢ Greater → nat_cmp y x ≢ Greater → x ≡ y
-same_if x y first second = elim (cases_lt x y) [
-  | inl less ↦ absurd (second (sym (nat_cmp_is y x Greater less)))
-  | inr not ↦ elim (cases_lt y x) [
-    | inl greater ↦ absurd (first (sym (nat_cmp_is x y Greater greater)))
-    | inr neither ↦ omega (arith, not, neither)
-  ]
-]
+same_if x y first second = grind (arith, common_steps, cases_lt)
 
 -- where a text is neither greater than another nor less than a prefix of it, this is a prefix of it too
 between_both : (word middle rest : List ℕ) → slice_cmp nat_cmp word middle ≢ Greater
@@ -63,8 +54,7 @@ between_both : (word middle rest : List ℕ) → slice_cmp nat_cmp word middle �
 between_both [] middle rest first second = (middle, refl)
 between_both (x ∷ word) [] rest first second = absurd (first refl)
 between_both (x ∷ word) (y ∷ middle) rest first second =
-    let same : x ≡ y = same_if x y (λ is. first (ap (λ o. ordering_then o (slice_cmp nat_cmp word middle)) is))
-    (λ is. second (ap (λ o. ordering_then o (slice_cmp nat_cmp middle (word ++ rest))) is)) in
+    let same : x ≡ y = grind (arith, same_if) in
     let forth : nat_cmp x y ≡ Equal = sym (nat_cmp_is x y Equal same) in
     let back : nat_cmp y x ≡ Equal = sym (nat_cmp_is y x Equal (sym same)) in
     let further = between_both word middle rest
@@ -109,25 +99,11 @@ step_back words sorted index at inside upto fails answer last = by answer last
   where
     earlier : (k : ℕ) → k < index → StartsWith (pattern_at words index) (pattern_at words k)
         → (k < at) × StartsWith (pattern_at words at) (pattern_at words k)
-    earlier k below begins =
-        let least = upto.1 k below begins in
-        let differs : k ≢ at = λ same.
-        fails (subst (λ n. StartsWith (pattern_at words index) (pattern_at words n)) same begins) in
-        let before : k < at = omega (arith, least, differs) in (
-          before,
-          begins_between (pattern_at words index) (pattern_at words at) (pattern_at words k) begins
-              (sorted k at (omega (arith, before)) (omega (arith, inside, upto.0)))
-              (sorted at index (omega (arith, upto.0)) inside),
-        )
+    earlier k below begins = grind (arith, begins_between)
 
     by : (answer : Option ℕ) → IsLastPrefix words at answer → IsUpTo words index answer
-    by None none = λ k below begins.
-        let (before, own) = earlier k below begins in none k before own
-    by (Some last) is = (
-      omega (arith, is.0, upto.0),
-      λ k below begins.
-          let (before, own) = earlier k below begins in is.2 k before own,
-    )
+    by None none = grind (arith, earlier)
+    by (Some last) is = grind (arith, earlier)
 
 module _ (texts words : List (List ℕ)) (numbers : List ℕ) (sorted : AreSorted texts words numbers) (index : ℕ)
     (inside : index < length words) where
@@ -156,8 +132,7 @@ module _ (texts words : List (List ℕ)) (numbers : List ℕ) (sorted : AreSorte
     begins = own;
     least = λ j below begins.
         let (k, here, is) = sorted.has j below in
-        let at : pattern_at words k ≡ pattern_at texts j =
-        (sorted.is k here).1 ∙ ap (pattern_at texts) is in
+        let at : pattern_at words k ≡ pattern_at texts j = grind arith in
         let this = subst (StartsWith (pattern_at words index)) (sym at) begins in
         elim (cases_lt k index) [
           | inl before ↦ absurd (none k before this)
@@ -171,17 +146,10 @@ module _ (texts words : List (List ℕ)) (numbers : List ℕ) (sorted : AreSorte
       → IsFirstPrefix texts (pattern_at words index) (min number first)
   first_of_last last first is known = record {
     is_text = omega (arith, (sorted.is index inside).0, known.is_text);
-    begins = elim (cases_lt number first) [
-      | inl less ↦ subst (λ n. StartsWith (pattern_at words index) (pattern_at texts n))
-          (let same : number ≡ min number first = omega (arith, less) in same) own
-      | inr not ↦ subst (λ n. StartsWith (pattern_at words index) (pattern_at texts n))
-          (let same : first ≡ min number first = omega (arith, not) in same)
-          (begins_on (pattern_at words index) (pattern_at words last) (pattern_at texts first) is.1 known.begins)
-    ];
+    begins = grind (arith, begins_on, cases_lt, own);
     least = λ j below begins.
         let (k, here, number_is) = sorted.has j below in
-        let at : pattern_at words k ≡ pattern_at texts j =
-        (sorted.is k here).1 ∙ ap (pattern_at texts) number_is in
+        let at : pattern_at words k ≡ pattern_at texts j = grind arith in
         let this = subst (StartsWith (pattern_at words index)) (sym at) begins in
         elim (cases_lt k index) [
           | inl before ↦
@@ -209,9 +177,7 @@ in_order =
     then_cmp (on (λ (n : Numbered). n.symbols.items) (slice_cmp nat_cmp)) (on (λ (n : Numbered). n.number) nat_cmp)
 
 in_order_total : IsTotalOrder in_order
-in_order_total =
-    then_total (on_total (λ (n : Numbered). n.symbols.items) nat_list_cmp_total)
-    (on_total (λ (n : Numbered). n.number) nat_cmp_total)
+in_order_total = grind (arith, common_steps, nat_cmp_total, nat_list_cmp_total, on_total, then_total)
 
 module _ (all : List Numbered) (rises : IsSortedBy (λ x y. is_lt (in_order x y)) all) where
   order : IsStrictWeakOrder (λ (x y : Numbered). is_lt (in_order x y))
@@ -238,10 +204,7 @@ module _ (all : List Numbered) (rises : IsSortedBy (λ x y. is_lt (in_order x y)
 -- what is not less is not before
 not_greater : (a b : List ℕ) (more : Ordering) → is_lt (ordering_then (slice_cmp nat_cmp b a) more) ≡ false
     → slice_cmp nat_cmp a b ≢ Greater
-not_greater a b more not greater =
-    let turned = nat_list_cmp_total.antisymm b a in
-    let less : slice_cmp nat_cmp b a ≡ Less = turned ∙ ap ordering_reverse greater in
-    false≢true (sym not ∙ ap (λ o. is_lt (ordering_then o more)) less)
+not_greater a b more not greater = grind (arith, false≢true, nat_list_cmp_total)
 
 -- one of a list
 some_of : (all : List Numbered) (k : ℕ) → k < length all → Numbered
@@ -290,8 +253,7 @@ are_sorted texts given all words numbers moved rises = record {
       let second = word_at all k d inside in
       let equal : (get_or all k d).symbols.items ≡ (get_or all j d).symbols.items = sym second ∙ (sym same ∙ first) in
       let level : slice_cmp nat_cmp (get_or all k d).symbols.items (get_or all j d).symbols.items ≡ Equal =
-      ap (λ (w : List ℕ). slice_cmp nat_cmp w (get_or all j d).symbols.items) equal
-      ∙ tied_itself nat_list_cmp_total (get_or all j d).symbols.items in
+      grind (arith, nat_list_cmp_total, tied_itself) in
       let not = ge_from_not_lt (get_or all k d).number (get_or all j d).number
       (ap (λ o. is_lt (ordering_then o (nat_cmp (get_or all k d).number (get_or all j d).number))) (sym level)
       ∙ not_less all rises j k d (omega (arith, before)) inside) in
@@ -305,9 +267,7 @@ are_sorted texts given all words numbers moved rises = record {
     given_long = sym (length-map given (λ (n : Numbered). n.symbols.items)) ∙ ap (λ (l : List (List ℕ)). length l) words
 
     number_is : (i : ℕ) → i < length texts → get_or (numbers_in given) i 0 ≡ i
-    number_is i below =
-        let at = get_or-range_with_len 0 (length texts) i 0 below in
-        omega (arith, at, ap (λ l. get_or l i 0) numbers)
+    number_is i below = grind (arith, get_or-range_with_len)
 
     each : Numbered → All (IsGiven texts) all
     each d =
@@ -358,21 +318,7 @@ firsts_more texts words numbers firsts sorted long index first inside known is k
     here = omega (arith, below, inside)
 
     this : n ≡ m → IsFirstPrefix texts (pattern_at words k) (get_or (set firsts m first) n 0)
-    this same =
-        let word : pattern_at words index ≡ pattern_at words k =
-        (sorted.is index inside).1 ∙ (ap (pattern_at texts) (sym same) ∙ sym (sorted.is k here).1) in
-        let written = get_or-set_same firsts m first 0 (omega (arith, (sorted.is index inside).0, long)) in
-        subst (IsFirstPrefix texts (pattern_at words k))
-        (sym (ap (λ i. get_or (set firsts m first) i 0) same ∙ written))
-        (subst (λ (t : List ℕ). IsFirstPrefix texts t first) word is)
+    this same = grind (arith, get_or-set_same, here, m)
 
     other : n ≢ m → IsFirstPrefix texts (pattern_at words k) (get_or (set firsts m first) n 0)
-    other differs =
-        let before : k < index = elim (cases_lt k index) [
-          | inl less ↦ less
-          | inr not ↦
-              let same : k ≡ index = omega (arith, not, below) in
-              absurd (differs (ap (λ i. get_or numbers i 0) same))
-        ] in
-        subst (IsFirstPrefix texts (pattern_at words k)) (sym (get_or-set_other firsts m n first 0 differs))
-        (known k before)
+    other differs = grind (arith, cases_lt, get_or-set_other, m, n)

@@ -1,7 +1,5 @@
 -- Searches by an array that is lent.
-use Rattle.std.proofs.Common.{◌≡◌, ℕ, ◌-◌, ◌<◌, ◌≤◌, List, drop, length}
-use Rattle.std.proofs.Common.{IfSome, None, Option, Some}
-use Rattle.std.proofs.Common.{arith}
+use Rattle.std.proofs.Common.{◌≡◌, ℕ, ◌-◌, ◌<◌, ◌≤◌, List, length, IfSome, None, Option, Some, arith}
 use Rattle.std.proofs.lemmas.List.{length-drop, length-take, take-take}
 use Rattle.std.specs.List.{slice_range}
 use Rattle.literal_base.specs.declared.search.Span.{Span}
@@ -15,8 +13,7 @@ use Rattle.literal_search.specs.Prepared.{rows_in}
 -- the length of a part of a list
 pub length_part : (numbers : List ℕ) (from to : ℕ) → from ≤ to → to ≤ length numbers
     → length (slice_range numbers from to) ≡ to - from
-length_part numbers from to ordered inside =
-    omega (arith, length-take (to - from) (drop from numbers), length-drop from numbers)
+length_part numbers from to ordered inside = grind (arith, length-drop, length-take)
 
 -- the rows without the classes behind them
 pub rows_are : {version : ℕ} {numbers classes : List ℕ} {width : ℕ} {lengths rows : List ℕ} {longest : ℕ}

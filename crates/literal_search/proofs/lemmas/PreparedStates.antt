@@ -1,8 +1,7 @@
 -- States after a text by an array that is lent, and walks from them.
-use Rattle.std.proofs.Common.{◌≡◌, ℕ, ◌+◌, ◌-◌, ◌*◌, ◌%◌, ◌<◌, ◌≤◌, ◌^◌, List, [], ◌∷◌, ◌++◌, length, get_or}
-use Rattle.std.proofs.Common.{Option, None, Some, ap, append-nil, append_assoc, arith, inl, inr, refl, slice_range}
-use Rattle.std.proofs.Common.{subst, sym, take, drop, ◌∙◌}
-use Rattle.std.proofs.Common.{Err, Ok, Result}
+use Rattle.std.proofs.Common.{◌≡◌, ℕ, ◌+◌, ◌-◌, ◌*◌, ◌%◌, ◌<◌, ◌≤◌, ◌^◌, List, [], ◌∷◌, ◌++◌, length, get_or, Option}
+use Rattle.std.proofs.Common.{None, Some, ap, append-nil, append_assoc, arith, inl, inr, refl, slice_range, subst, sym}
+use Rattle.std.proofs.Common.{◌∙◌, Err, Ok, Result}
 use Rattle.std.proofs.lemmas.Bool.{cases_lt}
 use Rattle.std.specs.Borrow.{Bor}
 use Rattle.std.specs.Result.{IsOkAnd}
@@ -45,10 +44,7 @@ module _ (t : Tables) (are : AreTables t) (text : List ℕ) (state : ℕ) (is : 
 
   -- and without the highest bit it is the index of its row
   pub row_by : (row : ℕ) → row ≡ state % 2 ^ 31 → IsRowOf state row
-  row_by row row_is = elim (cases_lt state (2 ^ 31)) [
-    | inl small ↦ inl (small, omega arith)
-    | inr large ↦ let few = state_small in inr (large, omega arith)
-  ]
+  row_by row row_is = grind (arith, cases_lt, state_small)
 
   pub has_row : state % 2 ^ 31 < length t.rows
   has_row = let within = row_within t are text state is (state % 2 ^ 31) (row_by (state % 2 ^ 31) refl) in omega arith
@@ -75,9 +71,7 @@ module _ (t : Tables) (are : AreTables t) (text : List ℕ) (state : ℕ) (is : 
         subst (AreAtEnd t.patterns t.ignore_case text (whole_of text)) (sym same)
         (listed_end t are text state is row large at_row)
     listed starts ends pattern starts_are ends_are pattern_is (Err error) given =
-        let below = named_below t are text state is row large at_row in
-        absurd (given (grind (arith, are.lists.long)) (grind (arith, list_ordered t are text state is row large at_row))
-        (grind (arith, list_inside t are text state is row large at_row)))
+        grind (arith, at_row, list_inside, list_ordered, named_below)
 
 -- a walk that has read the bytes of a haystack from an offset on after a text is in a state, and no pattern has ended
 -- since
@@ -96,18 +90,7 @@ pub record WalksAt (t : Tables) (text haystack : List ℕ) (start first at row :
 module _ (t : Tables) (are : AreTables t) (text haystack : List ℕ) (start : ℕ) where
   pub walks_none : (state row : ℕ) → IsStateAfter t text state → row ≡ state % 2 ^ 31
       → WalksAt t text haystack start state start row
-  walks_none state row is row_is = record {
-    number = state;
-    walked = record {
-      is = let none : start - start ≡ 0 = omega arith in
-          subst (λ (l : List ℕ). IsStateAfter t l state)
-          (sym (ap (λ n. text ++ take n (drop start haystack)) none ∙ append-nil text)) is;
-      none = λ end after upto. absurd (omega arith);
-    };
-    row_is = row_by t are text state is row row_is;
-    begun = λ _. refl;
-    further = λ after. absurd (omega arith);
-  }
+  walks_none state row is row_is = grind (arith, append-nil, row_by)
 
   -- with one byte more
   module _ (first at row : ℕ) (after : start ≤ at) (inside : at < length haystack)
@@ -149,8 +132,4 @@ pub code_in : (classes classes' rows rows' : List ℕ) (width width' row byte co
     → width ≡ width' → rows ≡ rows' → AreClasses classes' width'
     → (AreClasses classes width → row + width < length rows → code ≡ get_or rows (row + get_or classes byte 0) 0)
     → row + width' < length rows' → code ≡ get_or rows' (row + get_or classes' byte 0) 0
-code_in classes classes' rows rows' width width' row byte code a b c are given =
-    let Given : List ℕ → ℕ → List ℕ → Type 0 = λ c w r.
-    AreClasses c w → row + w < length r → code ≡ get_or r (row + get_or c byte 0) 0 in
-    subst (λ r. Given classes' width' r) c (subst (λ w. Given classes' w rows) b
-    (subst (λ c. Given c width rows) a given)) are
+code_in classes classes' rows rows' width width' row byte code a b c are given = grind arith

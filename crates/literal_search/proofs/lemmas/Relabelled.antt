@@ -99,8 +99,7 @@ module _ (texts others : List (List ℕ)) (on back : ℕ → ℕ) (count : lengt
     fixed_begun text begun =
         let it = one_begins texts text begun in
         let split = (starts_is Decides-eqb (pattern_at texts it.0) text _ refl).0 it.2 in
-        fixed_prefix on back text (drop (length text) (pattern_at texts it.0))
-        (subst (λ (l : List ℕ). map back (map on l) ≡ l) split (fixed_text it.0 it.1))
+        grind (arith, fixed_prefix, fixed_text)
 
     begun_on : (text : List ℕ) → begins_one texts text ≡ true → begins_one others (map on text) ≡ true
     begun_on text begun = grind (arith, list_any_at, one_begins, starts_on)
@@ -167,10 +166,7 @@ module _ (texts others : List (List ℕ)) (on back : ℕ → ℕ) (count : lengt
           found_on others texts back on (sym count) (λ k few. come k (omega (arith, few, count)))
               (λ k few. go k (omega (arith, few, count))) i inside below,
         ) in
-        found_is others i inside
-        ∙ (ap (pattern_at others) same
-        ∙ (go found.first (omega (arith, found.early, below))
-        ∙ ap (map on) (sym (found_is texts i below))))
+        grind (arith, found_is)
 
     -- also reversed
     back_on : (kind : MatchKind) (i : ℕ) → i < length texts

@@ -1,11 +1,10 @@
 -- Whole words that are replaced, one after another.
 use Rattle.std.proofs.Common.{◌≡◌, ◌∙◌, ◌++◌, ◌∷◌, ℕ, List, [], None, Option, Some, ap, append-nil}
-use Rattle.std.proofs.Common.{◌+◌, ◌<◌, append_assoc, arith, length, length-append, map, refl, slice_range, subst, sym}
+use Rattle.std.proofs.Common.{◌+◌, ◌<◌, append_assoc, arith, length, length-append, map, slice_range, subst, sym}
 use Rattle.std.proofs.lemmas.List.{length-map}
 use Rattle.std.specs.Borrow.{Bor}
 use Rattle.literal_base.specs.MatchValue.{MatchValue}
 use Rattle.literal_base.specs.Occurs.{NoneIsEmpty, between, pattern_at, whole_of}
-use Rattle.literal_base.specs.declared.search.Span.{Span}
 use Rattle.literal_search.specs.Inside.WholeWords.{AreWordsUpToBy}
 use Rattle.literal_search.specs.Replaced.{IsReplacedBy, RefusesToReplaceBy, replaced}
 use Rattle.literal_search.specs.WholeWords.{AreWholeWordsBy, AreWordsFromBy, GivesWholeWordBy, GivesWordBySides}
@@ -20,12 +19,7 @@ pub word_at : {words : WholeWordsValue} {haystack sides by : List ℕ} {it o : W
     → it.span ≡ whole_of haystack → it.at ≡ at → GivesWholeWordBy by it answer o
     → IsFirstAloneBy words haystack sides (between at (length haystack)) answer
 word_at {words} {haystack} {sides} {by} {it} {o} {at} {answer} words_is haystack_is sides_is span_is at_is step =
-    subst (λ (w : WholeWordsValue). IsFirstAloneBy w haystack sides (between at (length haystack)) answer) words_is
-    (subst (λ (h : List ℕ). IsFirstAloneBy it.words h sides (between at (length haystack)) answer) haystack_is
-    (subst (λ (s : List ℕ). IsFirstAloneBy it.words it.haystack s (between at (length haystack)) answer) sides_is
-    (subst (λ (s : Span). IsFirstAloneBy it.words it.haystack by (between at s.end) answer) span_is
-    (subst (λ (n : ℕ). IsFirstAloneBy it.words it.haystack by (between n it.span.end) answer) at_is
-    step.leftmost))))
+    grind arith
 
 -- a text is written up to where an iteration stands: whatever whole words are still to come, it goes on as it has to
 pub record AreWordsWrittenTo (words : WholeWordsValue) (haystack sides : List ℕ) (replacements : List (Bor (List ℕ)))
@@ -88,16 +82,7 @@ module _ {words : WholeWordsValue} {haystack sides : List ℕ} {replacements : L
       → AreWholeWordsBy words haystack sides (between at (length haystack)) more
       → 0 < length (text ++ replaced haystack given at more) → RefusesToReplaceBy (AreWordsFromBy words sides)
       (length words.search.query.patterns) haystack given OutOfMemory
-  refused count more are some = (
-    replaced haystack given 0 (done ++ more),
-    record {
-      one_for_each = grind (arith, length-map);
-      matches = done ++ more;
-      are_matches = so_far.so_far.goes_on more are;
-      is_replaced = refl;
-    },
-    subst (λ (bytes : List ℕ). 0 < length bytes) (so_far.goes_on more) some,
-  )
+  refused count more are some = grind (arith, length-map)
 
   -- as those after the last whole word
   pub word_refused_behind : {o : WordMatchesBySidesValue} → GivesWordBySides it None o

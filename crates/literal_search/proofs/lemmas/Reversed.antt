@@ -1,4 +1,5 @@
 -- Reversed texts: a prefix of one becomes a suffix.
+use Rattle.std.proofs.lemmas.Grind.{common_steps}
 use Rattle.std.proofs.Common.{◌≡◌, ℕ, ◌<◌, List, [], ◌∷◌, ◌++◌, length, get_or, drop, map}
 use Rattle.std.proofs.Common.{nat_eq, reverse, sum_by, refl, sym, ap, ◌∙◌, arith, true}
 use Rattle.std.proofs.lemmas.Bool.{cases_lt}
@@ -16,10 +17,7 @@ use Rattle.literal_search.specs.SearchValue.{reversed}
 -- the text of a reversed pattern is that of the pattern, reversed
 pub reverse_map : (f : ℕ → ℕ) (xs : List ℕ) → map f (reverse xs) ≡ reverse (map f xs)
 reverse_map f [] = refl
-reverse_map f (x ∷ xs) =
-    ap (map f) (reverse-append (x ∷ []) xs)
-    ∙ (map-append f (reverse xs) (x ∷ [])
-    ∙ (ap (λ l. l ++ f x ∷ []) (reverse_map f xs) ∙ sym (reverse-append (f x ∷ []) (map f xs))))
+reverse_map f (x ∷ xs) = grind (arith, common_steps, map-append, reverse-append, reverse_map f xs)
 
 -- a reversed text, of which there are as many
 pub back_at : (texts : List (List ℕ)) (i : ℕ) → pattern_at (reversed texts) i ≡ reverse (pattern_at texts i)
@@ -44,23 +42,13 @@ pub back_total : (classes : List ℕ) (patterns : List (List ℕ))
     → sum_by length (reversed (map (symbols_in classes) patterns)) ≡ sum_by length patterns
 back_total classes [] = refl
 back_total classes (bytes ∷ more) =
-    let text = symbols_in classes bytes in
-    omega (
-      arith,
-      sum_by-cons length (reverse text) (reversed (map (symbols_in classes) more)),
-      sum_by-cons length bytes more,
-      length-reverse text,
-      length-map bytes (λ byte. get_or classes byte 0),
-      back_total classes more,
-    )
+    grind (arith, common_steps, length-map, length-reverse, sum_by-cons, back_total classes more)
 
 -- the texts of reversed patterns
 pub map_reversed : (classes : List ℕ) (patterns : List (List ℕ))
     → map (symbols_in classes) (reversed patterns) ≡ reversed (map (symbols_in classes) patterns)
 map_reversed classes [] = refl
-map_reversed classes (bytes ∷ more) =
-    ap (λ l. l ∷ map (symbols_in classes) (reversed more)) (reverse_map (λ byte. get_or classes byte 0) bytes)
-    ∙ ap (λ l. reverse (symbols_in classes bytes) ∷ l) (map_reversed classes more)
+map_reversed classes (bytes ∷ more) = grind (arith, reverse_map, map_reversed classes more)
 
 -- what is a prefix of a text is, reversed, a suffix of the reversed text
 module _ (texts : List (List ℕ)) (text : List ℕ) (i : ℕ) where
@@ -70,14 +58,7 @@ module _ (texts : List (List ℕ)) (text : List ℕ) (i : ℕ) where
       let word = pattern_at texts i in
       let rest = drop (length word) text in
       let split = (starts_is Decides-eqb text word _ refl).0 stands in
-      record {
-        is_pattern = omega (arith, back_count texts);
-        ends = record {
-          prefix = reverse rest;
-          split = ap (λ (l : List ℕ). reverse l) split
-              ∙ (reverse-append word rest ∙ ap (λ l. reverse rest ++ l) (sym (back_at texts i)));
-        };
-      }
+      grind (arith, back_at, back_count, reverse-append)
 
   pub end_is_prefix : IsSuffix (reversed texts) (reverse text) i → starts_with nat_eq text (pattern_at texts i) ≡ true
   end_is_prefix is =

@@ -1,7 +1,6 @@
 -- A text that is read piece by piece, and written with its matches rewritten.
-use Rattle.std.proofs.Common.{◌≡◌, ℕ, ◌+◌, ◌-◌, ◌<◌, ◌≤◌, ◌++◌, [], ◌∷◌, ◌∙◌, Bool, List, Ok, Option, Result, ap}
-use Rattle.std.proofs.Common.{Some, true}
-use Rattle.std.proofs.Common.{append-nil, append_assoc, arith, drop, length, length-append, refl, subst, sym}
+use Rattle.std.proofs.Common.{◌≡◌, ℕ, ◌+◌, ◌-◌, ◌<◌, ◌≤◌, ◌++◌, [], ◌∷◌, ◌∙◌, Bool, List, Ok, Option, Result, ap, Some}
+use Rattle.std.proofs.Common.{true, append-nil, append_assoc, arith, drop, length, length-append, refl, subst, sym}
 use Rattle.std.proofs.Common.{slice_range, take}
 use Rattle.std.proofs.KnownBytes.{Appends-nil, Appends-trans, Consumes-nil, Consumes-trans}
 use Rattle.std.proofs.lemmas.Fn.{FoldsTo-push}
@@ -14,8 +13,7 @@ use Rattle.std.specs.List.{FoldsTo}
 use Rattle.std.specs.declared.io.Error.{Error}
 use Rattle.literal_base.specs.MatchValue.{MatchValue}
 use Rattle.literal_base.specs.Occurs.{NoneIsEmpty}
-use Rattle.literal_search.specs.ReplacedStream.{AreRewritten, RewritesAllOf, RewritesMatch}
-use Rattle.literal_search.specs.ReplacedStream.{RewritingValue}
+use Rattle.literal_search.specs.ReplacedStream.{RewritesAllOf, RewritesMatch, RewritingValue}
 use Rattle.literal_search.specs.Inside.Rewriting.{HasRewritten}
 use Rattle.literal_search.specs.Inside.Stream.{AnswersAhead, AreMatches, IsFirst, margin_of, reach_of, search_of}
 use Rattle.literal_search.specs.declared.sought.Sought.{Sought}
@@ -26,19 +24,12 @@ use Rattle.literal_search.proofs.lemmas.Walk.{slice_halves}
 -- a part of a text is the same part of a longer one
 pub part_longer : (text piece : List ℕ) (from to : ℕ) → to ≤ length text → from ≤ to
     → slice_range (text ++ piece) from to ≡ slice_range text from to
-part_longer text piece from to inside ordered =
-    let long = length-drop from text in
-    ap (take (to - from)) (drop-append-le from text piece (omega arith))
-    ∙ take-append-le (to - from) (drop from text) piece (omega arith)
+part_longer text piece from to inside ordered = grind (arith, drop-append-le, length-drop, take-append-le)
 
 -- a part of what is ahead is a part of the text
 part_within : (text : List ℕ) (at from to : ℕ) → from ≤ to
     → slice_range (drop at text) from to ≡ slice_range text (from + at) (to + at)
-part_within text at from to ordered =
-    let same : (to + at) - (from + at) ≡ to - from = omega arith in
-    let later : at + from ≡ from + at = omega arith in
-    ap (take (to - from)) (drop-drop from at text)
-    ∙ (ap (λ k. take (to - from) (drop k text)) later ∙ ap (λ k. take k (drop (from + at) text)) (sym same))
+part_within text at from to ordered = grind (arith, drop-drop)
 
 module _ {F W : Type 0} (contents : W → Option (List ℕ))
     (step : F → MatchValue → Bor (List ℕ) → MutBor W → Result ⊤ Error → MutBor W → F → Type 0)
@@ -62,10 +53,8 @@ module _ {F W : Type 0} (contents : W → Option (List ℕ))
             after = one.after;
             some = one.some;
             inside = omega (arith, one.inside);
-            are_matched = one.are_matched
-                ∙ sym (part_longer text piece found.start found.end one.inside (omega arith));
-            between = subst (Appends first.written (contents one.before.now))
-                (sym (part_longer text piece first.at found.start (omega (arith, one.inside)) one.after)) one.between;
+            are_matched = grind (arith, part_longer);
+            between = grind (arith, part_longer);
             calls = one.calls;
             leaves = one.leaves;
             goes_on = one.goes_on;
@@ -95,8 +84,7 @@ module _ {F W : Type 0} (contents : W → Option (List ℕ))
               rest = subst (λ (n : ℕ). Appends held held (slice_range [] 0 n)) (sym first) (Appends-nil held);
             };
             replace_is = refl;
-            come_first = λ more behind over list.
-                subst (λ (n : ℕ). AreMatches sought ([] ++ more) n behind) first list;
+            come_first = λ more behind over list. grind arith;
           }
 
       -- a piece is read
@@ -111,21 +99,16 @@ module _ {F W : Type 0} (contents : W → Option (List ℕ))
             text = old.text ++ piece;
             matches = old.matches;
             reads = Consumes-trans unread left last old.text piece old.reads consumed;
-            ahead_is = ap (λ l. l ++ piece) old.ahead_is
-                ∙ sym (drop-append-le (at - margin) old.text piece (omega (arith, done.inside)));
+            ahead_is = grind (arith, drop-append-le);
             are_rewritten = record {
               last = done.last;
               calls = calls_longer old.text piece _ old.matches done.last done.calls;
               upto = done.upto;
               inside = omega (arith, done.inside);
-              rest = subst (Appends done.last.written written)
-                  (sym (part_longer old.text piece done.last.at at done.inside done.upto)) done.rest;
+              rest = grind (arith, part_longer);
             };
             replace_is = old.replace_is;
-            come_first = λ more behind ended.
-                subst (λ (t : List ℕ). AreMatches sought t at behind → AreMatches sought t 0 (old.matches ++ behind))
-                (sym (append_assoc old.text piece more))
-                (old.come_first (piece ++ more) behind (λ yes. grind arith));
+            come_first = λ more behind ended. grind (arith, append_assoc);
           }
 
       module _ (is_whole : Bool) (at : ℕ) (ahead : List ℕ) (left : Option (List ℕ)) (now : F)
@@ -153,37 +136,23 @@ module _ {F W : Type 0} (contents : W → Option (List ℕ))
           here_len = length-take-le base text (omega (arith, old.are_rewritten.inside))
 
           ahead_len : base + length ahead ≡ length text
-          ahead_len =
-              let long = ap length old.ahead_is ∙ length-drop base text in
-              omega (arith, long, old.are_rewritten.inside)
+          ahead_len = grind (arith, length-drop)
 
           -- a part of the bytes ahead is a part of the text
           part_is : (from to : ℕ) → base ≤ from → from ≤ to
               → slice_range ahead (from - base) (to - base) ≡ slice_range text from to
-          part_is from to after ordered =
-              let from_is : (from - base) + base ≡ from = omega (arith, after) in
-              let to_is : (to - base) + base ≡ to = omega (arith, after, ordered) in
-              ap (λ l. slice_range l (from - base) (to - base)) old.ahead_is
-              ∙ (part_within text base (from - base) (to - base) (omega (arith, ordered))
-              ∙ (ap (λ n. slice_range text n ((to - base) + base)) from_is ∙ ap (slice_range text from) to_is))
+          part_is from to after ordered = grind (arith, part_within)
 
           -- the bytes up to a later offset follow those that are written
           up_to : (to : ℕ) (out : Option (List ℕ)) → at ≤ to
               → Appends written out (slice_range ahead (at - base) (to - base))
               → Appends old.are_rewritten.last.written out (slice_range text old.are_rewritten.last.at to)
-          up_to to out later writes =
-              let done = old.are_rewritten in
-              subst (Appends done.last.written out) (sym (slice_halves text done.last.at at to done.upto later))
-              (Appends-trans done.last.written written out _ _ done.rest
-              (subst (Appends written out) (part_is at to (omega arith) later) writes))
+          up_to to out later writes = grind (arith, Appends-trans, part_is, slice_halves)
 
           -- the bytes ahead of a later offset
           ahead_later : (to : ℕ) → at ≤ to
               → drop ((to - margin) - base) ahead ≡ drop (to - margin) text
-          ahead_later to later =
-              let sum : base + ((to - margin) - base) ≡ to - margin = omega (arith, later) in
-              ap (drop ((to - margin) - base)) old.ahead_is
-              ∙ (drop-drop ((to - margin) - base) base text ∙ ap (λ n. drop n text) sum)
+          ahead_later to later = grind (arith, drop-drop)
 
           -- bytes in which no match begins are written
           pub passed_by : (to : ℕ) (out : Option (List ℕ)) → at ≤ to → to ≤ base + length ahead
@@ -244,8 +213,7 @@ module _ {F W : Type 0} (contents : W → Option (List ℕ))
                         after = omega (arith, done.upto, after);
                         some = some;
                         inside = omega (arith, within, ahead_len);
-                        are_matched = matched
-                            ∙ part_is found.start found.end (omega (arith, after)) (omega (arith, some));
+                        are_matched = grind (arith, part_is);
                         between = up_to found.start (contents mid.now) after writes;
                         calls = subst (λ f. step f found bytes mid (Ok tt) end next) (sym old.replace_is) called;
                         leaves = refl;
@@ -266,10 +234,7 @@ module _ {F W : Type 0} (contents : W → Option (List ℕ))
               }
             where
               none_between : (n : ℕ) → Appends (contents end.now) (contents end.now) (slice_range text n n)
-              none_between n =
-                  let none : n - n ≡ 0 = omega arith in
-                  subst (λ (k : ℕ). Appends (contents end.now) (contents end.now) (take k (drop n text))) (sym none)
-                  (Appends-nil (contents end.now))
+              none_between n = grind (arith, Appends-nil)
 
       -- a turn: a piece is read, and what is known of the bytes ahead then is written
       module _ (was is : Bool) (at to : ℕ) (ahead piece seen rest : List ℕ) (left last : Option (List ℕ)) (now : F)
@@ -280,9 +245,7 @@ module _ {F W : Type 0} (contents : W → Option (List ℕ))
           (rest_is : rest ≡ drop ((to - margin) - (at - margin)) seen)
         where
           has_read : HasRewritten contents step sought is at seen unread last replace held now written
-          has_read =
-              subst (λ (l : List ℕ). HasRewritten contents step sought is at l unread last replace held now written)
-              (sym seen_is) (read_further was is at ahead piece left last now written still consumed old)
+          has_read = grind (arith, read_further)
 
           pub turn_passed : (out : Option (List ℕ)) (next : F) → next ≡ now → at ≤ to
               → to ≤ (at - margin) + length seen
@@ -290,11 +253,7 @@ module _ {F W : Type 0} (contents : W → Option (List ℕ))
               → AnswersAhead sought at (seen ++ more) (NoneBefore to))
               → Appends written out (slice_range seen (at - (at - margin)) (to - (at - margin)))
               → HasRewritten contents step sought is to rest unread last replace held next out
-          turn_passed out next next_is later within none writes =
-              subst (λ (f : F). HasRewritten contents step sought is to rest unread last replace held f out) (sym
-              next_is)
-              (subst (λ (l : List ℕ). HasRewritten contents step sought is to l unread last replace held now out)
-              (sym rest_is) (passed_by is at seen last now written has_read to out later within none writes))
+          turn_passed out next next_is later within none writes = grind (arith, has_read, passed_by)
 
           pub turn_matched : (found : MatchValue) (bytes : Bor (List ℕ)) (mid end : MutBor W)
               (answer : Result ⊤ Error) (next after : F) (out : Option (List ℕ)) → to ≡ found.end
@@ -309,16 +268,7 @@ module _ {F W : Type 0} (contents : W → Option (List ℕ))
               → answer ≡ Ok tt → HasRewritten contents step sought is to rest unread last replace held after out
           turn_matched found bytes mid end answer next after out to_is called after_is out_is later some within first
               writes matched ok =
-              subst (λ (f : F). HasRewritten contents step sought is to rest unread last replace held f out) (sym
-              after_is)
-              (subst (λ (o : Option (List ℕ)). HasRewritten contents step sought is to rest unread last replace held
-              next o) (sym out_is)
-              (subst (λ (l : List ℕ). HasRewritten contents step sought is to l unread last replace held next
-              (contents end.now)) (sym rest_is)
-              (subst (λ (n : ℕ). HasRewritten contents step sought is n (drop ((n - margin) - (at - margin)) seen)
-              unread last replace held next (contents end.now)) (sym to_is)
-              (match_by is at seen last now written has_read found bytes mid end next later some within first writes
-              matched (subst (λ (a : Result ⊤ Error). step now found bytes mid a end next) ok called)))))
+              grind (arith, has_read, match_by)
 
       -- once a text has ended, and no byte is ahead
       pub all_rewritten : (is_whole : Bool) (at : ℕ) (ahead : List ℕ) (left : Option (List ℕ)) (now : F)
@@ -330,17 +280,5 @@ module _ {F W : Type 0} (contents : W → Option (List ℕ))
           let long = ahead_len is_whole at ahead left now written old in
           let all : at ≡ length old.text = omega (arith, long, none, old.are_rewritten.inside) in
           let nothing : AreMatches sought (old.text ++ []) at [] =
-          goes_none sought (old.text ++ []) at (nothing_last sought (old.text ++ []) at some (λ i p begins.
-          omega (arith, all, length-append old.text [], goes_after sought (old.text ++ []) at i p begins))) in
-          record {
-            text = old.text;
-            matches = old.matches;
-            reads = old.reads;
-            end = end;
-            are_matches = subst (AreMatches sought old.text 0) (append-nil old.matches)
-                (subst (λ (t : List ℕ). AreMatches sought t 0 (old.matches ++ []))
-                (append-nil old.text) (old.come_first [] [] (λ _. refl) nothing));
-            are_rewritten = subst (λ (n : ℕ). AreRewritten contents step old.text old.matches replace held n
-                written) all
-                old.are_rewritten;
-          }
+          grind (arith, goes_after, goes_none, length-append, nothing_last) in
+          grind (arith, append-nil)

@@ -1,7 +1,7 @@
 -- A text whose matches are rewritten by calls that write what a function of the match gives.
-use Rattle.std.proofs.Common.{◌≡◌, ℕ, ◌-◌, ◌<◌, ◌≤◌, ◌++◌, [], ◌∷◌, ◌∙◌, Err, IfErr, List, Ok, OnOk, Option, Result, ap}
-use Rattle.std.proofs.Common.{append-nil, refl}
-use Rattle.std.proofs.Common.{append_assoc, arith, length, length-append, drop, slice_range, subst, sym, take}
+use Rattle.std.proofs.Common.{◌≡◌, ℕ, ◌<◌, ◌≤◌, ◌++◌, [], ◌∷◌, ◌∙◌, Err, IfErr, List, Ok, OnOk, Option, Result, ap}
+use Rattle.std.proofs.Common.{append-nil}
+use Rattle.std.proofs.Common.{append_assoc, arith, length, length-append, slice_range, subst, sym}
 use Rattle.std.proofs.KnownBytes.{Appends-trans}
 use Rattle.std.specs.Bool.{⊤}
 use Rattle.std.specs.Borrow.{Bor, MutBor}
@@ -34,8 +34,7 @@ BeginsFrom at (found ∷ more) = at ≤ found.start
 replaced_later : (bytes_for : MatchValue → List ℕ) (text : List ℕ) (from to : ℕ) (matches : List MatchValue)
     → from ≤ to → to ≤ length text → BeginsFrom to matches
     → slice_range text from to ++ replaced_by bytes_for text to matches ≡ replaced_by bytes_for text from matches
-replaced_later bytes_for text from to [] later within begins =
-    sym (slice_halves text from to (length text) later within)
+replaced_later bytes_for text from to [] later within begins = grind (arith, slice_halves)
 replaced_later bytes_for text from to (found ∷ more) later within begins =
     let rest = bytes_for found ++ replaced_by bytes_for text found.end more in
     sym (ap (λ l. l ++ rest) (slice_halves text from to found.start later begins)
@@ -88,20 +87,8 @@ module _ {F W : Type 0} (contents : W → Option (List ℕ))
         let some = one.some in
         record {
           out = between ++ (bytes_for found ++ next.out);
-          appended = Appends-trans first.written (contents one.before.now) written between (bytes_for found ++ next.out)
-              one.between
-              (Appends-trans (contents one.before.now) (contents one.behind.now) written (bytes_for found) next.out
-              called.1 (subst (λ (o : Option (List ℕ)). Appends o written next.out) one.leaves next.appended));
-          is_replaced = λ behind after begins.
-              let whole = text ++ behind in
-              let last_part = replaced_by bytes_for whole at after in
-              append_assoc between (bytes_for found ++ next.out) last_part
-              ∙ (ap (λ l. between ++ l) (append_assoc (bytes_for found) next.out last_part)
-              ∙ (ap (λ l. between ++ (bytes_for found ++ l))
-              (next.is_replaced behind after begins
-              ∙ ap (λ n. replaced_by bytes_for whole n (more ++ after)) one.goes_on)
-              ∙ ap (λ l. l ++ (bytes_for found ++ replaced_by bytes_for whole found.end (more ++ after)))
-              (sym (part_longer text behind first.at found.start (omega (arith, one.inside)) one.after))));
+          appended = grind (arith, Appends-trans);
+          is_replaced = λ behind after begins. grind (arith, append_assoc, part_longer);
         }
 
 -- calls that write what a function gives for each match write the text with each match replaced by this
@@ -126,14 +113,7 @@ module _ {F W : Type 0} {contents : W → Option (List ℕ)}
       whole : (text : List ℕ) (matches : List MatchValue) (out : List ℕ)
           → out ++ replaced_by bytes_for (text ++ []) (length text) []
           ≡ replaced_by bytes_for (text ++ []) 0 (matches ++ []) → out ≡ replaced_by bytes_for text 0 matches
-      whole text matches out is =
-          let none : length text - length text ≡ 0 = omega arith in
-          let here = subst (λ (t : List ℕ). out ++ replaced_by bytes_for t (length text) []
-          ≡ replaced_by bytes_for t 0 (matches ++ [])) (append-nil text) is in
-          let empty : slice_range text (length text) (length text) ≡ [] = ap (λ n. take n (drop (length text) text))
-          none in
-          sym (append-nil out) ∙ (ap (λ l. out ++ l) (sym empty)
-          ∙ (here ∙ ap (replaced_by bytes_for text 0) (append-nil matches)))
+      whole text matches out is = grind (arith, append-nil)
 
   -- and after a failed read the known part of it
   pub part_written : (part : RewritesPartOf contents step AreMatches reach replace unread left held written)
@@ -172,12 +152,7 @@ module _ {F W : Type 0} (contents : W → Option (List ℕ))
       answer = replaced_by replacement all.text 0 all.matches;
       reads = all.reads;
       end = all.end;
-      is_replaced = record {
-        one_for_each = one_for_each;
-        matches = all.matches;
-        are_matches = all.are_matches;
-        is_replaced = refl;
-      };
+      is_replaced = grind arith;
       writes = all_written all replacement holds held_first
           (λ f found bytes before behind next held _ _ _. writes f found bytes before behind next held);
     }
@@ -187,22 +162,7 @@ module _ {F W : Type 0} (contents : W → Option (List ℕ))
     part_replaced part =
         let made = part_written part replacement holds held_first
         (λ f found bytes before behind next held _ _ _. writes f found bytes before behind next held) in
-        record {
-          text = part.text;
-          answer = made.out;
-          at = part.at;
-          reads = part.reads;
-          far = part.far;
-          is_replaced = record {
-            within = part.are_rewritten.inside;
-            goes_on = λ more behind list. (
-              part.matches ++ behind,
-              part.come_first more behind list,
-              made.is_replaced more behind (begins (part.text ++ more) part.at behind list),
-            );
-          };
-          writes = made.appended;
-        }
+        grind arith
 
     -- and the errors are the same
     stops_replacing : (error : ReplaceStreamError)

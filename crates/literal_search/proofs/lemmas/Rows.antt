@@ -1,6 +1,6 @@
 -- Rows before the classes, and those where there is no pattern.
 use Rattle.std.proofs.Common.{◌≡◌, ◌+◌, ◌*◌, ◌-◌, ◌<◌, ◌≤◌, ℕ, suc, zero, Bool, List, [], ◌∷◌, ◌++◌, ap, arith}
-use Rattle.std.proofs.Common.{◌⊎◌, true, get_or, inl, length, min, refl, subst, sym}
+use Rattle.std.proofs.Common.{get_or, length, min, refl}
 use Rattle.std.proofs.lemmas.List.{get_or_past, length-take}
 use Rattle.std.specs.List.{count_by, range_with_len, repeat}
 use Rattle.std.specs.Option.{unwrap_or}
@@ -9,7 +9,7 @@ use Rattle.literal_search.specs.Inside.Classes.{AreClasses}
 use Rattle.literal_search.specs.Inside.Rows.{rows_of}
 use Rattle.literal_search.specs.States.{AreStates, HasTooManyStates, IsRowsLength}
 use Rattle.literal_search.specs.Table.{LeadsTo, Recognises, nothing}
-use Rattle.literal_search.specs.Words.{begins_one, ending, live_suffix, word_of}
+use Rattle.literal_search.specs.Words.{ending, live_suffix, word_of}
 use Rattle.literal_search.proofs.lemmas.States.{few_states}
 
 -- how many they are
@@ -66,9 +66,7 @@ none_recognised = record {
 -- there is no state but that of the empty word
 one_state : (texts : List (List ℕ)) → AreStates [] texts → length texts ≤ 1
 unfolding none_recognised
-one_state =
-    few_states [] 1 (λ i k. subst (λ (l : List ℕ). get_or l k 0 < 1) (sym (get_or_past [] i [] (omega arith)))
-    (omega arith)) (0 ∷ nothing ∷ []) none_recognised
+one_state = grind (arith, few_states, get_or_past, none_recognised)
 
 pub none_long : IsRowsLength [] 1 2
 unfolding IsRowsLength
@@ -76,22 +74,12 @@ none_long = (
   1,
   record {
     texts = [] ∷ [];
-    are_states = record {
-      apart = λ i j d before inside. absurd (omega (arith, before, inside));
-      begun = begun;
-    };
+    are_states = grind arith;
     count_is = refl;
     most = one_state;
   },
   refl,
 )
-  where
-    begun : (k : ℕ) (d : List ℕ) → k < 1
-        → (get_or ([] ∷ []) k d ≡ []) ⊎ (begins_one [] (get_or ([] ∷ []) k d) ≡ true)
-    begun zero d first = inl refl
-    begun (suc k) d first = absurd (omega (arith, first))
 
 pub none_few : HasTooManyStates [] 1 → ⊥
-none_few many =
-    let one = one_state many.0 many.1 in
-    omega (arith, one, many.2)
+none_few many = grind (arith, one_state)

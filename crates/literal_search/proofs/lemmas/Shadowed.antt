@@ -1,14 +1,12 @@
 -- Which pattern replaces another, and that a search by these finds the best.
-use Rattle.std.proofs.Common.{◌≡◌, ◌⊎◌, ℕ, ◌<◌, ◌≤◌, ◌∙◌, List, [], ◌∷◌, Bool, true, false}
-use Rattle.std.proofs.Common.{Some, inl, inr, ap, arith, cond, get_or, length, map, nat_eq, refl, reverse, subst}
-use Rattle.std.proofs.Common.{suc, sym, zero}
+use Rattle.std.proofs.Common.{◌≡◌, ◌⊎◌, ℕ, ◌<◌, ◌≤◌, ◌∙◌, List, [], ◌∷◌, Bool, true, false, Some, inl, inr, ap, arith}
+use Rattle.std.proofs.Common.{cond, get_or, length, map, nat_eq, refl, reverse, subst, suc, sym, zero}
 use Rattle.std.proofs.lemmas.Bool.{cases_lt, false≢true}
 use Rattle.std.proofs.lemmas.List.{ext_get_or, get_or-map, get_or_default, length-map}
 use Rattle.std.proofs.lemmas.List.Elements.{All-weaker}
 use Rattle.std.proofs.lemmas.List.Folds.{Any-from_list_any, list_any_at}
 use Rattle.std.proofs.lemmas.List.FromFn.{get_or-range_with_len, length-range_with_len}
 use Rattle.std.specs.List.{find, range_with_len, starts_with}
-use Rattle.std.specs.Option.{unwrap_or}
 use Rattle.literal_base.specs.Leftmost.{IsBetter}
 use Rattle.literal_base.specs.Occurs.{NoneIsEmpty, pattern_at}
 use Rattle.literal_base.specs.declared.packed.MatchKind.{MatchKind}
@@ -34,13 +32,7 @@ pub record FindsFirst (test : List ℕ → Bool) (texts : List (List ℕ)) (upto
 -- where one passes, it is found
 found_in_front : (test : List ℕ → Bool) (text : List ℕ) (more : List (List ℕ)) (upto : ℕ) → test text ≡ true
     → FindsFirst test (text ∷ more) upto
-found_in_front test text more upto passes = record {
-  first = 0;
-  early = omega arith;
-  passes = passes;
-  before = λ j none. absurd (omega (arith, none));
-  found = ap (λ b. cond b (Some text) (find test more)) passes;
-}
+found_in_front test text more upto passes = grind arith
 
 found_behind : (test : List ℕ → Bool) (text : List ℕ) (more : List (List ℕ)) (upto : ℕ) → FindsFirst test more upto
     → (passes : Bool) → test text ≡ passes → FindsFirst test (text ∷ more) (suc upto)
@@ -78,28 +70,12 @@ module _ (words : List (List ℕ)) (i : ℕ) (below : i < length words) where
   first_found = grind (arith, back_at, back_count, end_is_prefix, end_of_itself, found_first)
 
   pub found_is : pattern_at (map (first_prefix words) words) i ≡ pattern_at words first_found.first
-  found_is =
-      get_or-map (first_prefix words) words i [] [] below
-      ∙ ap (λ o. unwrap_or o (pattern_at words i)) first_found.found
+  found_is = grind (arith, first_found, get_or-map)
 
   -- reversed it is the first of the suffixes
   pub first_is : (n : ℕ) × IsFirstOf (reversed words) (pattern_at (reversed words) i) n
       × (n < length words) × (pattern_at (map (first_prefix words) words) i ≡ pattern_at words n)
-  first_is =
-      let text = pattern_at words i in
-      let n = first_found.first in
-      let back = back_at words i in
-      let inside : n < length words = omega (arith, first_found.early, below) in (
-        n,
-        record {
-          is = subst (λ (t : List ℕ). IsSuffix (reversed words) t n) (sym back)
-              (prefix_is_end words text n inside first_found.passes);
-          least = λ j is. no_later (starts_with nat_eq text) words i j first_found
-              (end_is_prefix words text j (subst (λ (t : List ℕ). IsSuffix (reversed words) t j) back is));
-        },
-        inside,
-        found_is,
-      )
+  first_is = grind (arith, back_at, end_is_prefix, first_found, found_is, no_later, prefix_is_end)
 
 -- what replaces some texts, none of which is empty, is not empty
 pub some_unshadowed : (kind : MatchKind) (words : List (List ℕ)) → NoneIsEmpty words
@@ -109,12 +85,7 @@ some_unshadowed LeftmostFirst words some i d below =
     let inside : i < length words = omega (arith, below, length-map words (first_prefix words)) in
     let first = first_is words i inside in
     let long = some first.0 [] first.2 in
-    omega (
-      arith,
-      long,
-      ap (λ (l : List ℕ). length l) (get_or-map (first_prefix words) words i [] d inside
-          ∙ (sym (get_or-map (first_prefix words) words i [] [] inside) ∙ first.3)),
-    )
+    grind (arith, get_or-map)
 
 -- in reversed texts each of which was replaced by the first of its suffixes
 module _ (patterns others : List (List ℕ)) (count : length others ≡ length patterns)
@@ -125,11 +96,7 @@ module _ (patterns others : List (List ℕ)) (count : length others ≡ length p
     pub replaced_ends : (i : ℕ) → IsSuffix patterns text i → IsSuffix others text i
     replaced_ends i is =
         let one = first i is.is_pattern in
-        record {
-          is_pattern = omega (arith, is.is_pattern, count);
-          ends = subst (HasSuffix text) (sym one.2)
-              (ends_on text (pattern_at patterns i) (pattern_at patterns one.0) is.ends one.1.is.ends);
-        }
+        grind (arith, ends_on)
 
     -- and the longest of these is the first of the suffixes
     pub longest_is_first : (i : ℕ) → IsFirstSuffix others text i → IsFirstOf patterns text i
@@ -149,34 +116,15 @@ module _ (patterns others : List (List ℕ)) (count : length others ≡ length p
         own : pattern_at others one.0 ≡ pattern_at patterns one.0
         own =
             let other = first one.0 one.1.is.is_pattern in
-            let within : IsSuffix patterns (pattern_at patterns i) other.0 = record {
-              is_pattern = other.1.is.is_pattern;
-              ends = ends_on (pattern_at patterns i) (pattern_at patterns one.0) (pattern_at patterns other.0)
-                  one.1.is.ends other.1.is.ends;
-            } in
-            let same : other.0 ≡ one.0 = omega (
-              arith,
-              other.1.least one.0 (end_of_itself patterns one.0 one.1.is.is_pattern),
-              one.1.least other.0 within,
-            ) in
+            let within : IsSuffix patterns (pattern_at patterns i) other.0 = grind (arith, ends_on, one) in
+            let same : other.0 ≡ one.0 = grind (arith, end_of_itself) in
             other.2 ∙ ap (pattern_at patterns) same
 
         it_ends : IsSuffix others text one.0
-        it_ends = record {
-          is_pattern = omega (arith, one.1.is.is_pattern, count);
-          ends = subst (HasSuffix text) (one.2 ∙ sym own) longest.is.ends;
-        }
+        it_ends = grind (arith, one, own)
 
         is_itself : i ≡ one.0
-        is_itself = elim (longest.others one.0 it_ends) [
-          | inl same ↦ same
-          | inr later ↦
-              let long = ap (λ (l : List ℕ). length l) (one.2 ∙ sym own) in
-              elim later [
-                | inl shorter ↦ absurd (omega (arith, shorter, long))
-                | inr as_long ↦ absurd (omega (arith, as_long.1, earlier))
-              ]
-        ]
+        is_itself = grind (arith, earlier, it_ends, one, own)
 
         same_text : pattern_at others i ≡ pattern_at patterns i
         same_text = one.2 ∙ ap (pattern_at patterns) (sym is_itself)
@@ -195,11 +143,7 @@ module _ (patterns others : List (List ℕ)) (count : length others ≡ length p
                 | inl shorter ↦
                     let within = ends_within text (pattern_at others j) (pattern_at others i) end.ends
                     longest.is.ends (omega (arith, shorter)) in
-                    let is_end : IsSuffix patterns (pattern_at patterns i) other.0 = record {
-                      is_pattern = other.1.is.is_pattern;
-                      ends = subst (λ (t : List ℕ). HasSuffix t (pattern_at patterns other.0)) same_text
-                          (subst (HasSuffix (pattern_at others i)) other.2 within);
-                    } in
+                    let is_end : IsSuffix patterns (pattern_at patterns i) other.0 = grind (arith, ends, same_text) in
                     omega (arith, before, is_itself, one.1.least other.0 is_end)
                 | inr as_long ↦ omega (arith, as_long.1)
               ]
@@ -218,8 +162,7 @@ back_first words i below =
     )
 
 back_known : (words : List (List ℕ)) → length (reversed (map (first_prefix words) words)) ≡ length (reversed words)
-back_known words =
-    back_count (map (first_prefix words) words) ∙ (length-map words (first_prefix words) ∙ sym (back_count words))
+back_known words = grind (arith, back_count, length-map)
 
 -- the automaton of these has no more states
 pub few_unshadowed : (words : List (List ℕ)) (width : ℕ)
@@ -259,11 +202,7 @@ chosen_unshadowed words firsts are =
     let text = pattern_at words i in
     let found = first_found words i inside in
     let first = are.each i inside in
-    let same : get_or firsts i 0 ≡ found.first = omega (
-      arith,
-      no_later (starts_with nat_eq text) words i (get_or firsts i 0) found first.begins,
-      first.least found.first (omega (arith, found.early, inside)) found.passes,
-    ) in
+    let same : get_or firsts i 0 ≡ found.first = grind (arith, inside, no_later) in
     get_or-map (pattern_at words) firsts i 0 [] (omega (arith, below, count))
     ∙ (ap (pattern_at words) same ∙ sym (found_is words i inside)))
 
@@ -275,8 +214,7 @@ all_chosen words =
     ext_get_or [] (chosen_by words (range_with_len 0 (length words))) words (count ∙ many)
     (λ i below.
     let inside : i < length words = omega (arith, below, count, many) in
-    let at : get_or (range_with_len 0 (length words)) i 0 ≡ i =
-    omega (arith, get_or-range_with_len 0 (length words) i 0 inside) in
+    let at : get_or (range_with_len 0 (length words)) i 0 ≡ i = grind (arith, get_or-range_with_len, inside) in
     get_or-map (pattern_at words) (range_with_len 0 (length words)) i 0 [] (omega (arith, below, count))
     ∙ ap (pattern_at words) at)
 
@@ -291,9 +229,7 @@ pub texts_chosen : (classes : List ℕ) (patterns : List (List ℕ)) (numbers : 
     → map (symbols_in classes) (map (pattern_at patterns) numbers)
     ≡ map (pattern_at (map (symbols_in classes) patterns)) numbers
 texts_chosen classes patterns [] = refl
-texts_chosen classes patterns (number ∷ more) =
-    ap (λ l. l ∷ map (symbols_in classes) (map (pattern_at patterns) more)) (text_chosen classes patterns number)
-    ∙ ap (λ l. pattern_at (map (symbols_in classes) patterns) number ∷ l) (texts_chosen classes patterns more)
+texts_chosen classes patterns (number ∷ more) = grind (arith, text_chosen, texts_chosen classes patterns more)
 
 -- where a text ends with a reversed one, it ends with one of those by which a search goes
 pub ends_unshadowed : (kind : MatchKind) (words : List (List ℕ)) (text : List ℕ) (i : ℕ)

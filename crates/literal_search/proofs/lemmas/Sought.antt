@@ -1,7 +1,7 @@
 -- What a stream is searched for: matches, and whole words.
 use Rattle.std.proofs.lemmas.Grind.{common_steps}
 use Rattle.std.proofs.Common.{◌≡◌, ℕ, ◌+◌, ◌-◌, ◌≤◌, ◌<◌, ◌++◌, ◌∷◌, ◌∙◌, [], Bool, List, None, Option, Some, ap, arith}
-use Rattle.std.proofs.Common.{append-nil, drop, inl, inr, length, length-append, refl, subst, sym}
+use Rattle.std.proofs.Common.{append-nil, inl, inr, length, length-append, subst, sym}
 use Rattle.std.proofs.lemmas.Bool.{cases_lt}
 use Rattle.std.proofs.lemmas.List.{drop-append-le, length-drop, take-append-le}
 use Rattle.std.proofs.Math.Seq.{drop-append-add}
@@ -9,12 +9,11 @@ use Rattle.std.specs.Borrow.{Bor}
 use Rattle.std.specs.List.{slice_range}
 use Rattle.literal_base.specs.Leftmost.{IsLeftmost}
 use Rattle.literal_base.specs.MatchValue.{MatchValue}
-use Rattle.literal_base.specs.Occurs.{AreEqualBytes, NoneIsEmpty, Occurs, between, pattern_at, rest_from}
+use Rattle.literal_base.specs.Occurs.{NoneIsEmpty, Occurs, between, pattern_at, rest_from}
 use Rattle.literal_base.specs.Query.{Query}
 use Rattle.literal_search.specs.SearchValue.{longest_of}
 use Rattle.literal_search.specs.Stream.{AnswersSoFar, IsKnownBy}
-use Rattle.literal_search.specs.WholeWords.{IsFirstAlone, OccursAlone, WholeWordsValue}
-use Rattle.literal_search.specs.WholeWords.{is_word_at, is_word_before}
+use Rattle.literal_search.specs.WholeWords.{IsFirstAlone, OccursAlone, WholeWordsValue, is_word_at, is_word_before}
 use Rattle.literal_search.specs.Inside.Stream.{Answers, AnswersAhead, AreMatches, Begins, IsFirst, TellsOf, margin_of}
 use Rattle.literal_search.specs.Inside.Stream.{reach_of, search_of, shifted, told_later}
 use Rattle.literal_search.specs.declared.sought.Sought.{Sought}
@@ -26,21 +25,8 @@ use Rattle.literal_search.proofs.lemmas.Streams.{GoesFrom, occurs_prefix}
 
 -- what is searched for goes from an offset on
 goes_later : (s : Sought) (text : List ℕ) (from to i p : ℕ) → to ≤ p → Begins s text from i p → Begins s text to i p
-goes_later (Any search) text from to i p later o = record {
-  is_pattern = o.is_pattern;
-  after_start = later;
-  before_end = o.before_end;
-  same = o.same;
-}
-goes_later (Words words) text from to i p later o = record {
-  occurs = record {
-    is_pattern = o.occurs.is_pattern;
-    after_start = later;
-    before_end = o.occurs.before_end;
-    same = o.occurs.same;
-  };
-  alone = o.alone;
-}
+goes_later (Any search) text from to i p later o = grind arith
+goes_later (Words words) text from to i p later o = grind arith
 
 pub goes_after : (s : Sought) (text : List ℕ) (from i p : ℕ) → Begins s text from i p → from ≤ p
 goes_after (Any search) text from i p o = o.after_start
@@ -48,28 +34,10 @@ goes_after (Words words) text from i p o = o.occurs.after_start
 
 goes_first : (s : Sought) (text : List ℕ) (from to : ℕ) (answer : Option MatchValue) → from ≤ to
     → ((i p : ℕ) → Begins s text from i p → to ≤ p) → IsFirst s text to answer → IsFirst s text from answer
-goes_first (Any search) text from to None later none nothing = λ i p o.
-    nothing i p (goes_later (Any search) text from to i p (none i p o) o)
-goes_first (Any search) text from to (Some found) later none first = record {
-  occurs = goes_later (Any search) text to from found.pattern found.start
-      (omega (arith, later, first.occurs.after_start)) first.occurs;
-  whole = first.whole;
-  earliest = λ i p before o.
-      first.earliest i p before (goes_later (Any search) text from to i p (none i p o) o);
-  best = λ i better o. first.best i better (goes_later (Any search) text from to i found.start
-      (none i found.start o) o);
-}
-goes_first (Words words) text from to None later none nothing = λ i p o.
-    nothing i p (goes_later (Words words) text from to i p (none i p o) o)
-goes_first (Words words) text from to (Some found) later none first = record {
-  occurs = goes_later (Words words) text to from found.pattern found.start
-      (omega (arith, later, first.occurs.occurs.after_start)) first.occurs;
-  whole = first.whole;
-  earliest = λ i p before o.
-      first.earliest i p before (goes_later (Words words) text from to i p (none i p o) o);
-  best = λ i better o. first.best i better (goes_later (Words words) text from to i found.start
-      (none i found.start o) o);
-}
+goes_first (Any search) text from to None later none nothing = grind (arith, goes_later)
+goes_first (Any search) text from to (Some found) later none first = grind (arith, goes_later)
+goes_first (Words words) text from to None later none nothing = grind (arith, goes_later)
+goes_first (Words words) text from to (Some found) later none first = grind (arith, goes_later)
 
 pub goes_from : (s : Sought) → GoesFrom (IsFirst s) (Begins s)
 goes_from s = record { after = goes_after s; later = goes_later s; first = goes_first s }
@@ -86,12 +54,8 @@ goes_some (Words words) text from found more first list = (first, list)
 -- where nothing begins before the end, there is nothing
 pub nothing_last : (s : Sought) (text : List ℕ) (from : ℕ) → NoneIsEmpty (search_of s).query.patterns
     → ((i p : ℕ) → Begins s text from i p → length text ≤ p) → IsFirst s text from None
-nothing_last (Any search) text from some none = λ i p o.
-    let long : 0 < length (pattern_at search.now.query.patterns i) = some i [] o.is_pattern in
-    omega (arith, none i p o, o.before_end, long)
-nothing_last (Words words) text from some none = λ i p o.
-    let long : 0 < length (pattern_at words.now.search.query.patterns i) = some i [] o.occurs.is_pattern in
-    omega (arith, none i p o, o.occurs.before_end, long)
+nothing_last (Any search) text from some none = grind arith
+nothing_last (Words words) text from some none = grind arith
 
 module _ (word_bytes : List Bool) (before text : List ℕ) where
   -- a byte of a text is the same byte of a longer one
@@ -122,38 +86,17 @@ module _ (words : WholeWordsValue) (text more : List ℕ) where
       let long = longest_is patterns i in record {
         occurs = occurs_prefix patterns words.search.ignore_case text more from i p (omega (arith, long, inside))
             o.occurs;
-        alone = record {
-          before = sym (before_prefix words.word_bytes text more p (omega (arith, inside))) ∙ o.alone.before;
-          after = sym (word_prefix words.word_bytes text more (p + length (pattern_at patterns i))
-              (omega (arith, long, inside))) ∙ o.alone.after;
-        };
+        alone = grind (arith, before_prefix, word_prefix);
       }
 
   same_longer : (p n : ℕ) → p + n ≤ length text → slice_range (text ++ more) p (p + n) ≡ slice_range text p (p + n)
-  same_longer p n inside =
-      let end : (p + n) - p ≡ n = omega arith in
-      let rest : n ≤ length (drop p text) = grind (arith, length-drop) in
-      grind (arith, drop-append-le, take-append-le)
+  same_longer p n inside = grind (arith, drop-append-le, length-drop, take-append-le)
 
   alone_longer : (from i p : ℕ) → p + (longest_of patterns + 1) ≤ length text
       → OccursAlone patterns words.search.ignore_case words.word_bytes text (between from (length text)) i p
       → OccursAlone patterns words.search.ignore_case words.word_bytes (text ++ more) (rest_from (text ++ more) from)
       i p
-  alone_longer from i p inside o =
-      let long = longest_is patterns i in record {
-        occurs = record {
-          is_pattern = o.occurs.is_pattern;
-          after_start = o.occurs.after_start;
-          before_end = omega (arith, o.occurs.before_end, length-append text more);
-          same = subst (λ (l : List ℕ). AreEqualBytes words.search.ignore_case l (pattern_at patterns i))
-              (sym (same_longer p (length (pattern_at patterns i)) (omega (arith, long, inside)))) o.occurs.same;
-        };
-        alone = record {
-          before = before_prefix words.word_bytes text more p (omega (arith, inside)) ∙ o.alone.before;
-          after = word_prefix words.word_bytes text more (p + length (pattern_at patterns i))
-              (omega (arith, long, inside)) ∙ o.alone.after;
-        };
-      }
+  alone_longer from i p inside o = grind (arith, before_prefix, length-append, longest_is, same_longer, word_prefix)
 
   -- what is known of a whole word holds whatever follows
   pub word_known : (from : ℕ) (leftmost : Option MatchValue) (answer : SoFar) → TellsOf leftmost answer
@@ -222,12 +165,7 @@ begins_behind (Words words) before text from near i p o =
     let after = o.occurs.after_start in
     record {
       occurs = occurs_behind patterns words.now.search.ignore_case before text from i p o.occurs;
-      alone = record {
-        before = before_behind words.now.word_bytes before text p (λ first. omega (arith, near, after, first))
-            ∙ o.alone.before;
-        after = ap (is_word_at words.now.word_bytes (before ++ text)) size
-            ∙ (word_behind words.now.word_bytes before text (p + length (pattern_at patterns i)) ∙ o.alone.after);
-      };
+      alone = grind (arith, before_behind, word_behind);
     }
 
 begins_ahead : (s : Sought) (before text : List ℕ) (from : ℕ)
@@ -242,12 +180,7 @@ begins_ahead (Words words) before text from near i p o =
     let after = o.occurs.after_start in
     record {
       occurs = occurs_ahead patterns words.now.search.ignore_case before text from i p o.occurs;
-      alone = record {
-        before = sym (before_behind words.now.word_bytes before text p (λ first. omega (arith, near, after, first)))
-            ∙ o.alone.before;
-        after = sym (ap (is_word_at words.now.word_bytes (before ++ text)) size
-            ∙ word_behind words.now.word_bytes before text (p + length (pattern_at patterns i))) ∙ o.alone.after;
-      };
+      alone = grind (arith, before_behind, word_behind);
     }
 
 module _ (s : Sought) (before text : List ℕ) (from : ℕ) (near : length before ≡ (length before + from) - margin_of s)
@@ -258,16 +191,12 @@ module _ (s : Sought) (before text : List ℕ) (from : ℕ) (near : length befor
     ahead_at i p o =
         let after = goes_after s (before ++ text) (length before + from) i p o in
         let is : p ≡ length before + (p - length before) = omega (arith, after) in
-        begins_ahead s before text from near i (p - length before)
-        (subst (λ (n : ℕ). Begins s (before ++ text) (length before + from) i n) is o)
+        grind (arith, begins_ahead)
 
     -- where nothing begins ahead before an offset, nothing does in the whole text
     none_behind : (offset : ℕ) → ((i p : ℕ) → Begins s text from i p → offset ≤ p) → (i p : ℕ)
         → Begins s (before ++ text) (length before + from) i p → offset + length before ≤ p
-    none_behind offset none i p o =
-        let here = none i (p - length before) (ahead_at i p o) in
-        let after = goes_after s (before ++ text) (length before + from) i p o in
-        omega (arith, here, after)
+    none_behind offset none i p o = grind (arith, ahead_at, goes_after)
 
 -- the leftmost match ahead is that of the whole text from there on
 first_behind : (s : Sought) (before text : List ℕ) (from : ℕ)
@@ -306,9 +235,7 @@ pub answers_behind : (s : Sought) (base at : ℕ) (ahead : List ℕ) (answer : S
 answers_behind s base at ahead (Found found) begin later first = λ before len.
     let is : length before ≡ base = len ∙ sym begin in
     let at_is : length before + (at - base) ≡ at = omega (arith, is, later) in
-    subst (λ (n : ℕ). IsFirst s (before ++ ahead) at (Some (shifted n found))) is
-    (subst (λ (n : ℕ). IsFirst s (before ++ ahead) n (Some (shifted (length before) found))) at_is
-    (first_behind s before ahead (at - base) (len ∙ ap (λ n. n - margin_of s) (sym at_is)) found first))
+    grind (arith, first_behind)
 answers_behind s base at ahead (NoneBefore offset) begin later none = λ before len i p o.
     let is : length before ≡ base = len ∙ sym begin in
     let at_is : length before + (at - base) ≡ at = omega (arith, is, later) in
@@ -325,30 +252,20 @@ pub known_follows : (s : Sought) (text more : List ℕ) (from reach : ℕ) (left
     → AnswersSoFar query ignore_case (text ++ more) from answer) → Answers s (text ++ more) from answer
 known_follows (Any search) text more from reach leftmost (Found found) is first tells known follows =
     follows search.now.query search.now.ignore_case more (omega (arith, is)) first
-known_follows (Any search) text more from reach leftmost (NoneBefore offset) is first tells known follows =
-    follows search.now.query search.now.ignore_case more (omega (arith, is)) first
+known_follows (Any search) text more from reach leftmost (NoneBefore offset) is first tells known follows = grind arith
 known_follows (Words words) text more from reach leftmost answer is first tells known follows =
-    word_known words.now text more from leftmost answer tells
-    (subst (λ (n : ℕ). IsKnownBy n (length text) from answer) is known) first words refl
+    grind (arith, word_known)
 
 -- where nothing follows, and there is nothing in the text, nothing begins
 pub nothing_follows : (s : Sought) (text more : List ℕ) (from : ℕ) → more ≡ [] → IsFirst s text from None
     → (i p : ℕ) → Begins s (text ++ more) from i p → length text ≤ p
-nothing_follows (Any search) text more from empty nothing i p o =
-    absurd (nothing i p (subst (λ (t : List ℕ). Begins (Any search) t from i p)
-    (ap (λ l. text ++ l) empty ∙ append-nil text) o))
-nothing_follows (Words words) text more from empty nothing i p o =
-    absurd (nothing i p (subst (λ (t : List ℕ). Begins (Words words) t from i p)
-    (ap (λ l. text ++ l) empty ∙ append-nil text) o))
+nothing_follows (Any search) text more from empty nothing i p o = grind (arith, append-nil)
+nothing_follows (Words words) text more from empty nothing i p o = grind (arith, append-nil)
 
 -- where nothing begins before a later offset, the matches from there on are those from an earlier one on
 pub matches_later : (s : Sought) (text : List ℕ) (from to : ℕ) (matches : List MatchValue) → from ≤ to
     → ((i p : ℕ) → Begins s text from i p → to ≤ p) → AreMatches s text to matches → AreMatches s text from matches
-matches_later (Any search) text from to [] later none nothing =
-    goes_first (Any search) text from to None later none nothing
-matches_later (Any search) text from to (found ∷ more) later none list =
-    (goes_first (Any search) text from to (Some found) later none list.0, list.1)
-matches_later (Words words) text from to [] later none nothing =
-    goes_first (Words words) text from to None later none nothing
-matches_later (Words words) text from to (found ∷ more) later none list =
-    (goes_first (Words words) text from to (Some found) later none list.0, list.1)
+matches_later (Any search) text from to [] later none nothing = grind (arith, goes_first)
+matches_later (Any search) text from to (found ∷ more) later none list = grind (arith, goes_first)
+matches_later (Words words) text from to [] later none nothing = grind (arith, goes_first)
+matches_later (Words words) text from to (found ∷ more) later none list = grind (arith, goes_first)

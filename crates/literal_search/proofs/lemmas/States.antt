@@ -1,7 +1,7 @@
 -- How many states there are.
 use Rattle.std.proofs.lemmas.Grind.{common_steps}
 use Rattle.std.proofs.Common.{◌≡◌, ◌≢◌, ℕ, ◌+◌, ◌*◌, ◌-◌, ◌<◌, ◌≤◌, ◌^◌, ◌⊎◌, true, List, [], ◌∷◌, ◌++◌, suc, zero}
-use Rattle.std.proofs.Common.{Bool, cond, false, length-append, ltb, sum_by}
+use Rattle.std.proofs.Common.{cond, length-append, ltb, sum_by}
 use Rattle.std.proofs.Common.{length, get_or, map, take, drop, eqb, nat_eq, inl, inr, refl, sym, ap, ◌∙◌, arith, subst}
 use Rattle.std.proofs.Math.Nat.{mul-le-mul_right}
 use Rattle.std.proofs.Math.Seq.{take-append_seam}
@@ -78,11 +78,9 @@ module _ (patterns : List (List ℕ)) (width : ℕ)
       let one = one_begins patterns text begun in
       let pattern = pattern_at patterns one.0 in
       let split = (starts_is Decides-eqb pattern text _ refl).0 one.2 in
-      let read : get_or pattern k 0 ≡ symbol =
-      grind (arith, get_or_append_left) in
+      let read : get_or pattern k 0 ≡ symbol = grind (arith, get_or_append_left) in
       let next : suc k ≡ k + 1 = omega arith in
-      let more : take (suc k) text ≡ take k text ++ symbol ∷ [] =
-      ap (λ n. take n text) next ∙ take_more text k 0 (omega arith) in
+      let more : take (suc k) text ≡ take k text ++ symbol ∷ [] = grind (arith, take_more) in
       let prefix_begun = begins_prefix patterns (take (suc k) text) (drop (suc k) text)
       (grind (arith, common_steps)) in
       grind arith
@@ -106,21 +104,12 @@ prefix_by (text ∷ more) n = cond (ltb (length text) n) (prefix_by more (n - le
 prefix_here : (text : List ℕ) (more : List (List ℕ)) (n : ℕ) → n ≤ length text
     → prefix_by (text ∷ more) n ≡ take n text
 unfolding prefix_by
-prefix_here text more n within =
-    ap (λ b. cond b (prefix_by more (n - length text)) (take n text)) (by (ltb (length text) n) refl)
-  where
-    by : (b : Bool) → ltb (length text) n ≡ b → ltb (length text) n ≡ false
-    by true less = absurd (omega (arith, within, ltb-true (length text) n less))
-    by false is = is
+prefix_here text more n within = grind (arith, ltb-true, prefix_by)
 
 prefix_further : (text : List ℕ) (more : List (List ℕ)) (n : ℕ) → 0 < n
     → prefix_by (text ∷ more) (length text + n) ≡ prefix_by more n
 unfolding prefix_by
-prefix_further text more n some =
-    let rest : length text + n - length text ≡ n = omega arith in
-    ap (λ b. cond b (prefix_by more (length text + n - length text)) (take (length text + n) text))
-    (lt-ltb (length text) (length text + n) (omega (arith, some)))
-    ∙ ap (prefix_by more) rest
+prefix_further text more n some = grind (arith, lt-ltb, prefix_by)
 
 prefix_of_none : (texts : List (List ℕ)) → prefix_by texts 0 ≡ []
 unfolding prefix_by
@@ -151,10 +140,7 @@ number_of_any : (texts : List (List ℕ)) (text : List ℕ) → (text ≡ []) �
     → (n : ℕ) × (n < sum_by length texts + 1) × (prefix_by texts n ≡ text)
 number_of_any texts text (inl none) = (0, omega arith, prefix_of_none texts ∙ sym none)
 number_of_any texts [] (inr begun) = (0, omega arith, prefix_of_none texts)
-number_of_any texts (symbol ∷ text) (inr begun) =
-    let one = one_begins texts (symbol ∷ text) begun in
-    let (n, some, few, is) = number_of_prefix texts one.0 symbol text one.1 one.2 in
-    (n, few, is)
+number_of_any texts (symbol ∷ text) (inr begun) = grind (arith, number_of_prefix, one_begins)
 
 -- the states are at most one more than all symbols
 pub few_by_length : (patterns texts : List (List ℕ)) → AreStates patterns texts
@@ -164,9 +150,7 @@ few_by_length patterns texts are =
 
 pub few_if_short : (patterns : List (List ℕ)) (width : ℕ)
     → (sum_by length patterns + 1) * stride_of width ≤ 2 ^ 31 - 1 → ¬ HasTooManyStates patterns width
-few_if_short patterns width short (texts, are, many) =
-    let product = mul-le-mul_right (stride_of width) (few_by_length patterns texts are) in
-    omega (arith, short, many, product)
+few_if_short patterns width short (texts, are, many) = grind (arith, few_by_length, mul-le-mul_right)
 
 -- words that are made one by one
 module _ (patterns words : List (List ℕ)) (width upto : ℕ)
@@ -261,10 +245,7 @@ symbols_below classes width are patterns i k =
     ]
   where
     class_below : (byte : ℕ) → get_or classes byte 0 < width
-    class_below byte = elim (cases_lt byte 256) [
-      | inl is ↦ are.below byte is
-      | inr isnt ↦ subst (λ n. n < width) (sym (get_or_past classes byte 0 (omega (arith, are.each, isnt)))) are.some
-    ]
+    class_below byte = grind (arith, cases_lt, get_or_past)
 
     symbol_below : (bytes : List ℕ) → get_or (symbols_in classes bytes) k 0 < width
     symbol_below bytes = elim (cases_lt k (length bytes)) [

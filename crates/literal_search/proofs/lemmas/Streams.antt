@@ -1,8 +1,8 @@
 -- Texts that are read piece by piece.
 use Rattle.std.proofs.lemmas.Grind.{common_steps}
-use Rattle.std.proofs.Common.{rules, ◌≡◌, ℕ, ◌+◌, ◌-◌, ◌≤◌, ◌<◌, ◌^◌, ◌++◌, [], ◌∷◌, List, Ok, Err, map, Option, None}
+use Rattle.std.proofs.Common.{◌≡◌, ℕ, ◌+◌, ◌-◌, ◌≤◌, ◌<◌, ◌^◌, ◌++◌, [], ◌∷◌, List, Ok, Err, map, Option, None}
 use Rattle.std.proofs.Common.{Some, length, take, drop, ap, subst, sym, arith, append_assoc, append-nil}
-use Rattle.std.proofs.Common.{length-append, Bool, IfSome, true, false, refl, ◌∙◌}
+use Rattle.std.proofs.Common.{length-append, Bool, IfSome, true, false, ◌∙◌}
 use Rattle.std.proofs.KnownBytes.{Consumes-trans}
 use Rattle.std.proofs.Math.Seq.{take-append-add}
 use Rattle.std.proofs.lemmas.Option.{none-some}
@@ -54,8 +54,7 @@ pub part_and_more : (xs written behind : List ℕ) (start end n : ℕ) → start
     → slice_range (take end xs ++ (written ++ behind)) start (end + n) ≡ slice_range xs start end ++ take n written
 part_and_more xs written behind start end n ordered inside room =
     let end_is : start + (end - start) ≡ end = omega (arith, ordered) in
-    let first : drop start (take end xs) ≡ slice_range xs start end =
-    grind (arith, drop-take) in
+    let first : drop start (take end xs) ≡ slice_range xs start end = grind (arith, drop-take) in
     let all : drop start (take end xs ++ (written ++ behind)) ≡ slice_range xs start end ++ (written ++ behind) =
     grind (arith, drop-append-le, length-take-le) in
     let len = length_part xs start end ordered inside in
@@ -93,8 +92,7 @@ failed_on : (failure : Option ErrorKind) (r s : Reading) (first piece : List ℕ
     → IfSome failure (λ kind. (first ++ piece ≡ []) × (s.failure ≡ Some kind))
 failed_on None r s first piece sound before on = tt
 failed_on (Some kind) r s first piece sound before on =
-    let closed : ¬ IsOpen r = λ yes.
-    none-some kind (sym (ap (option_map error_kind) yes.1) ∙ (sym sound ∙ before.1)) in
+    let closed : ¬ IsOpen r = grind (arith, none-some) in
     let still = on closed in (
       ap (λ l. l ++ piece) before.0 ∙ still.0,
       ap (λ (q : Reading). q.failure) still.1 ∙ before.1,
@@ -104,10 +102,7 @@ failed_on (Some kind) r s first piece sound before on =
 reads_more : (unread now left : Option (List ℕ)) (failure : Option ErrorKind) (r s : Reading) (first piece : List ℕ)
     → r.failure ≡ option_map error_kind r.error → ReadsOn unread failure first now r.failure
     → Consumes now left piece → HasReadOn r piece s → ReadsOn unread failure (first ++ piece) left s.failure
-reads_more unread now left failure r s first piece sound reads consumed on = record {
-  consumed = Consumes-trans unread now left first piece reads.consumed consumed;
-  failed = failed_on failure r s first piece sound reads.failed on;
-}
+reads_more unread now left failure r s first piece sound reads consumed on = grind (arith, Consumes-trans, failed_on)
 
 -- nothing is known to follow where nothing is left to be read
 pub known_end : (unread : Option (List ℕ)) → IsAtEnd unread → known unread ≡ []
@@ -129,9 +124,7 @@ module _ (IsFirst : List ℕ → ℕ → Option MatchValue → Type 0) (Begins :
 
         cut_len : (before : List ℕ) → length before ≡ from - margin
             → length (before ++ take cut bytes) ≡ now - margin
-        cut_len before len =
-            let taken = length-take-le cut bytes within in
-            omega (arith, later, len, taken, length-append before (take cut bytes))
+        cut_len before len = grind (arith, length-append, length-take-le)
 
         -- an answer for what is ahead now is one for what was ahead before bytes were passed over
         ahead_before : (answer : Option MatchValue) → IsFirstAhead IsFirst Begins margin now answer (drop cut bytes)
@@ -152,9 +145,7 @@ module _ (IsFirst : List ℕ → ℕ → Option MatchValue → Type 0) (Begins :
     module _ (from now : ℕ) (seen rest : List ℕ) (before : HasPassed IsFirst Begins margin from now seen rest) where
       -- what is held, and whatever follows it, is what is ahead now
       rest_and_more : (more : List ℕ) → drop ((now - margin) - (from - margin)) (seen ++ more) ≡ rest ++ more
-      rest_and_more more =
-          drop-append-le ((now - margin) - (from - margin)) seen more before.within
-          ∙ ap (λ l. l ++ more) (sym before.rest_is)
+      rest_and_more more = grind (arith, drop-append-le)
 
       seen_within : (more : List ℕ) → (now - margin) - (from - margin) ≤ length (seen ++ more)
       seen_within more = omega (arith, before.within, length-append seen more)
@@ -171,16 +162,13 @@ module _ (IsFirst : List ℕ → ℕ → Option MatchValue → Type 0) (Begins :
           → ((more : List ℕ) → PassesOver IsFirst Begins margin now to (rest ++ more))
           → HasPassed IsFirst Begins margin from to seen (drop ((to - margin) - (now - margin)) rest)
       passed_more to later within none =
-          let long : length rest ≡ length seen - ((now - margin) - (from - margin)) =
-          ap length before.rest_is ∙ length-drop ((now - margin) - (from - margin)) seen in
+          let long : length rest ≡ length seen - ((now - margin) - (from - margin)) = grind (arith, length-drop) in
           let sum : ((now - margin) - (from - margin)) + ((to - margin) - (now - margin))
           ≡ (to - margin) - (from - margin) = omega (arith, later, before.later) in
           record {
             later = omega (arith, before.later, later);
             within = omega (arith, within, long, before.within, later, before.later);
-            rest_is = ap (drop ((to - margin) - (now - margin))) before.rest_is
-                ∙ (drop-drop ((to - margin) - (now - margin)) ((now - margin) - (from - margin)) seen
-                ∙ ap (λ n. drop n seen) sum);
+            rest_is = grind (arith, drop-drop);
             passed = λ more. pass_on to more (none more);
           }
 
@@ -194,19 +182,7 @@ module _ (IsFirst : List ℕ → ℕ → Option MatchValue → Type 0) (Begins :
 
     -- a search that has not read anything yet
     pub gone_nowhere : (m : StreamValue) → HasGoneOn IsFirst Begins margin m m
-    gone_nowhere m = record {
-      piece = [];
-      search_is = refl;
-      is_over = refl;
-      reads = search rules;
-      passed = record {
-        later = omega arith;
-        within = omega arith;
-        rest_is = grind (arith, append-nil);
-        passed = λ more before len i p begins.
-            goes.after (before ++ ((m.held ++ []) ++ more)) m.offset i p begins;
-      };
-    }
+    gone_nowhere m = grind (arith, append-nil)
 
     -- it passes over bytes
     pub gone_past : (old now new : StreamValue) (to : ℕ) → now.offset ≤ to
@@ -217,14 +193,7 @@ module _ (IsFirst : List ℕ → ℕ → Option MatchValue → Type 0) (Begins :
     gone_past old now new to later within none is gone =
         let passed = passed_more old.offset now.offset (old.held ++ gone.piece) now.held gone.passed to later within
         none in
-        subst (HasGoneOn IsFirst Begins margin old) (sym is)
-        (record {
-          piece = gone.piece;
-          search_is = gone.search_is;
-          is_over = gone.is_over;
-          reads = gone.reads;
-          passed = passed;
-        })
+        grind arith
 
     -- it reads on
     pub gone_on : (old : StreamValue) (searched : SearchValue) (w v : Window) (at : ℕ) (r s : Reading)
@@ -240,26 +209,7 @@ module _ (IsFirst : List ℕ → ℕ → Option MatchValue → Type 0) (Begins :
           is_over = gone.is_over;
           reads = reads_more old.unread unread left old.failure r s gone.piece read.0 sound.failure gone.reads read.1
               read.3;
-          passed = record {
-            later = passed.later;
-            within = omega (
-              arith,
-              passed.within,
-              length-append old.held gone.piece,
-              length-append old.held (gone.piece ++ read.0),
-              length-append gone.piece read.0,
-            );
-            rest_is = read.2
-                ∙ (ap (λ l. l ++ read.0) passed.rest_is
-                ∙ (sym (drop-append-le ((at - margin) - (old.offset - margin)) (old.held ++ gone.piece) read.0
-                passed.within)
-                ∙ ap (drop ((at - margin) - (old.offset - margin))) (append_assoc old.held gone.piece read.0)));
-            passed = λ more.
-                subst (PassesOver IsFirst Begins margin old.offset at)
-                (sym (append_assoc (old.held ++ gone.piece) read.0 more)
-                ∙ ap (λ l. l ++ more) (append_assoc old.held gone.piece read.0))
-                (passed.passed (read.0 ++ more));
-          };
+          passed = grind (arith, append_assoc, drop-append-le, length-append);
         }
 
     module _ (old now new : StreamValue) (gone : HasGoneOn IsFirst Begins margin old now) where
@@ -268,10 +218,7 @@ module _ (IsFirst : List ℕ → ℕ → Option MatchValue → Type 0) (Begins :
 
       -- how much is read then
       gone_len : (now.offset - margin) + length now.held ≡ (old.offset - margin) + length seen
-      gone_len =
-          let long = ap length gone.passed.rest_is
-          ∙ length-drop ((now.offset - margin) - (old.offset - margin)) seen in
-          omega (arith, long, gone.passed.within, gone.passed.later)
+      gone_len = grind (arith, length-drop)
 
       -- where it ends, past all bytes that were read
       over_all : new ≡ record now {
@@ -350,8 +297,7 @@ module _ (IsFirst : List ℕ → ℕ → Option MatchValue → Type 0) (Begins :
       ends_failed error failed none is =
           let unread_is : new.unread ≡ now.unread = ap (λ (m : StreamValue). m.unread) is in
           let failure_is : new.failure ≡ now.failure = ap (λ (m : StreamValue). m.failure) is in
-          let offset_is : new.offset ≡ (now.offset - margin) + length now.held =
-          ap (λ (m : StreamValue). m.offset) is in
+          let offset_is : new.offset ≡ (now.offset - margin) + length now.held = grind arith in
           record {
             piece = gone.piece;
             reads = rw (unread_is, failure_is) gone.reads;
@@ -434,16 +380,7 @@ module _ (IsFirst : List ℕ → ℕ → Option MatchValue → Type 0) (Begins :
     -- and then all of the text was read
     pub streamed_len : (m ended : StreamValue) → GoesThrough IsFirst Begins margin search text m
         → GivesAhead IsFirst Begins margin m None ended → ended.offset ≡ length text
-    streamed_len m ended stands last =
-        let ends = last.1 stands.not_over in
-        let taken = subst (λ (u : Option (List ℕ)). Consumes u ended.unread ends.piece) stands.unread
-        ends.reads.consumed in
-        let all = seen_whole m.held ends.piece stands.rest ended.unread ends.end taken in
-        let offset_is : ended.offset ≡ (m.offset - margin) + length (m.held ++ ends.piece) =
-        ap (λ (v : StreamValue). v.offset) ends.over in
-        let len : length (m.held ++ ends.piece) ≡ length (m.held ++ stands.rest) = ap length all in
-        let whole : length (stands.before ++ (m.held ++ stands.rest)) ≡ length text = ap length stands.whole in
-        omega (arith, offset_is, len, whole, stands.offset, length-append stands.before (m.held ++ stands.rest))
+    streamed_len m ended stands last = grind (arith, length-append, seen_whole)
 
     -- in front of an error nothing is missing but what begins in the last bytes that were read
     pub streamed_failed : (m : StreamValue) (error : Error) (ended : StreamValue)
@@ -451,16 +388,7 @@ module _ (IsFirst : List ℕ → ℕ → Option MatchValue → Type 0) (Begins :
         → GivesAhead IsFirst Begins margin m (Some (Err error)) ended
         → (i p : ℕ) → Begins text m.offset i p
         → ended.offset - (longest_of search.query.patterns + margin - 1) ≤ p
-    streamed_failed m error ended stands last i p begins =
-        let ends = last.2 in
-        let taken = subst (λ (u : Option (List ℕ)). Consumes u ended.unread ends.piece) stands.unread
-        ends.reads.consumed in
-        let all = seen_all m.held ends.piece stands.rest ended.unread taken in
-        let whole : text ≡ stands.before ++ ((m.held ++ ends.piece) ++ known ended.unread) =
-        sym (ap (λ l. stands.before ++ l) all.1 ∙ stands.whole) in
-        subst (λ (s : SearchValue). ended.offset - (longest_of s.query.patterns + margin - 1) ≤ p) stands.search_is
-        (ends.nothing (known ended.unread) stands.before stands.offset i p
-        (subst (λ (t : List ℕ). Begins t m.offset i p) whole begins))
+    streamed_failed m error ended stands last i p begins = grind (arith, common_steps, seen_all)
 
     module _ (AreAll : List ℕ → ℕ → List MatchValue → Type 0) (over : GoesOverAll IsFirst AreAll) where
       -- what it gives, in front of the list from where it then is, is the list from where it was
@@ -468,16 +396,14 @@ module _ (IsFirst : List ℕ → ℕ → Option MatchValue → Type 0) (Begins :
           → GoesThrough IsFirst Begins margin search text m
           → Yields (GivesAhead IsFirst Begins margin) m (map Ok all) n
           → AreAll text n.offset more → AreAll text m.offset (all ++ more)
-      streamed_first m [] n more stands stays list =
-          subst (λ (v : StreamValue). AreAll text v.offset more) (sym stays) list
+      streamed_first m [] n more stands stays list = grind arith
       streamed_first m (found ∷ rest) n more stands run list =
           let step = run.1 in
           let goes = step.2 in
           let taken = subst (λ (u : Option (List ℕ)). Consumes u run.0.unread goes.piece) stands.unread
           goes.reads.consumed in
           let all_is = seen_all m.held goes.piece stands.rest run.0.unread taken in
-          let whole : stands.before ++ ((m.held ++ goes.piece) ++ known run.0.unread) ≡ text =
-          ap (λ l. stands.before ++ l) all_is.1 ∙ stands.whole in
+          let whole : stands.before ++ ((m.held ++ goes.piece) ++ known run.0.unread) ≡ text = grind arith in
           let offset_is : run.0.offset ≡ found.end = ap (λ (v : StreamValue). v.offset) goes.goes_on in
           over.some text m.offset found (rest ++ more)
           (subst (λ (t : List ℕ). IsFirst t m.offset (Some found)) whole (goes.leftmost stands.before stands.offset))
@@ -494,9 +420,7 @@ module _ (IsFirst : List ℕ → ℕ → Option MatchValue → Type 0) (Begins :
           let ends = last.1 there.not_over in
           let taken = subst (λ (u : Option (List ℕ)). Consumes u ended.unread ends.piece) there.unread
           ends.reads.consumed in
-          let whole : there.before ++ (n.held ++ ends.piece) ≡ text =
-          ap (λ l. there.before ++ l) (seen_whole n.held ends.piece there.rest ended.unread ends.end taken)
-          ∙ there.whole in
+          let whole : there.before ++ (n.held ++ ends.piece) ≡ text = grind (arith, seen_whole) in
           subst (AreAll text m.offset) (append-nil all)
           (streamed_first m all n [] stands run (over.none text n.offset
           (subst (λ (t : List ℕ). IsFirst t n.offset None) whole (ends.nothing there.before there.offset))))

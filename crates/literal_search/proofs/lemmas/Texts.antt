@@ -1,6 +1,6 @@
 -- Matches of texts in a text begin and end between characters.
 use Rattle.std.proofs.Common.{◌≡◌, ℕ, ◌+◌, ◌<◌, ◌≤◌, Bool, true, false, List, [], ap, arith, drop, get_or, length, map}
-use Rattle.std.proofs.Common.{refl, subst, sym, take, ◌∙◌, IsCharBoundary, IsUtf8, ◌∷◌, ◌++◌, ◌&&◌, Some, append-nil}
+use Rattle.std.proofs.Common.{refl, subst, sym, take, IsCharBoundary, IsUtf8, ◌∷◌, ◌++◌, ◌&&◌, Some, append-nil}
 use Rattle.std.proofs.Common.{inl, inr}
 use Rattle.std.proofs.lemmas.List.{drop-map, get_or-drop, get_or-map, get_or-take, get_or_past, length-drop, length-map}
 use Rattle.std.proofs.lemmas.List.{take-map}
@@ -81,16 +81,7 @@ module _ (text pattern : List ℕ) (at : ℕ) (is_text : IsUtf8 text) (is_patter
   part_same = grind arith
 
   begins_between : IsCharBoundary text at
-  begins_between = (
-    omega (arith, fits),
-    λ inside large.
-        let read : get_or pattern 0 0 ≡ get_or text at 0 =
-        ap (λ (l : List ℕ). get_or l 0 0) (sym part_same)
-        ∙ (get_or-take (length pattern) (drop at text) 0 0 some ∙ (get_or-drop at text 0 0
-        ∙ ap (λ n. get_or text n 0) (omega arith))) in
-        let first = (IsCharBoundary-start pattern is_pattern).1 some (omega (arith, read, large)) in
-        omega (arith, first, read),
-  )
+  begins_between = grind (arith, IsCharBoundary-start, get_or-drop, get_or-take, part_same)
 
   ends_between : IsCharBoundary text (at + length pattern)
   ends_between =
@@ -109,8 +100,7 @@ occurs_between patterns ignore_case text span i at texts not_empty is_text insid
     let whole = case_folded ignore_case text in
     let len = folded_length ignore_case pattern in
     let long = folded_length ignore_case text in
-    let same : slice_range whole at (at + length folded) ≡ folded =
-    grind (arith, folded_part) in
+    let same : slice_range whole at (at + length folded) ≡ folded = grind (arith, folded_part) in
     let utf8 = folded_utf8 ignore_case text is_text in
     let pattern_utf8 = folded_utf8 ignore_case pattern (texts i [] occurs.is_pattern) in (
       grind (arith, folded_boundary, begins_between),
@@ -124,8 +114,7 @@ pub found_between : (search : SearchValue) (haystack : List ℕ) (m n : MatchesV
     → All IsUtf8 search.query.patterns → NoneIsEmpty search.query.patterns → IsUtf8 haystack
     → IsCharBoundary haystack found.start × IsCharBoundary haystack found.end
 found_between search haystack m n found search_is haystack_is to_end step texts not_empty is_text =
-    let here : IsLeftmostMatch search.query search.ignore_case haystack (rest_from haystack m.at) found =
-    grind arith in
+    let here : IsLeftmostMatch search.query search.ignore_case haystack (rest_from haystack m.at) found = grind arith in
     let both = occurs_between search.query.patterns search.ignore_case haystack (rest_from haystack m.at) found.pattern
     found.start texts not_empty is_text (omega arith) here.occurs in
     (both.0, subst (IsCharBoundary haystack) (sym here.whole) both.1)

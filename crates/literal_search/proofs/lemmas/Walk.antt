@@ -1,13 +1,13 @@
 -- A walk through rows that recognise patterns.
 use Rattle.std.proofs.Common.{◌≡◌, ℕ, ◌+◌, ◌*◌, ◌-◌, ◌<◌, ◌≤◌, ◌^◌, List, [], ◌∷◌, ◌++◌, length, get_or}
-use Rattle.std.proofs.Common.{Option, Some, None, IsSome, inl, inr, ◌⊎◌, take, drop, append-nil}
+use Rattle.std.proofs.Common.{Option, Some, None, inl, inr, ◌⊎◌, take, drop, append-nil}
 use Rattle.std.proofs.Common.{append_assoc, refl, sym, ap, subst, ◌∙◌, arith}
 use Rattle.std.proofs.lemmas.Bool.{cases_lt}
 use Rattle.std.proofs.lemmas.List.{drop-drop, drop-take, get_or-drop, length-drop, length-map, length-take, map-append}
 use Rattle.std.proofs.lemmas.List.{take-append-drop, take-take, take_more}
 use Rattle.std.specs.List.{slice_range}
 use Rattle.std.specs.Borrow.{Bor}
-use Rattle.std.specs.Option.{option_map, unwrap_or}
+use Rattle.std.specs.Option.{unwrap_or}
 use Rattle.std.specs.Slice.{IsItemAt}
 use Rattle.literal_base.specs.Occurs.{between}
 use Rattle.literal_search.specs.Inside.Classes.{symbols_in}
@@ -39,15 +39,11 @@ module _ (patterns : List (List ℕ)) (width : ℕ) (rows : List ℕ) (recognise
 
     leads_by : (ends : Option ℕ) → ending patterns (text ++ symbol ∷ []) ≡ ends
         → code ≡ code_of (leads_on.state * stride_of width) ends
-    leads_by ends is =
-        leads_on.code_is
-        ∙ ap (code_of (leads_on.state * stride_of width)) (sym (ending_by_live patterns (text ++ symbol ∷ [])) ∙ is)
+    leads_by ends is = grind (arith, ending_by_live, leads_on)
 
     stands : (next : ℕ) → next ≡ leads_on.state * stride_of width
         → IsAt patterns width rows recognises (text ++ symbol ∷ []) next
-    stands next is =
-        let to = leads_on in
-        record { state = to.state; is_state = to.is_state; row_is = is; live_suffix = sym to.word_is }
+    stands next is = grind (arith, leads_on)
 
     -- a number below 2^31 leads to a state with whose word nothing ends
     pub at_without_end : code < 2 ^ 31
@@ -110,18 +106,13 @@ pub slice_push : (text : List ℕ) (from at : ℕ) → from ≤ at → at < leng
 slice_push text from at after inside =
     let long : (at + 1) - from ≡ (at - from) + 1 = omega arith in
     let at_is : from + (at - from) ≡ at = omega arith in
-    ap (λ n. take n (drop from text)) long
-    ∙ (take_more (drop from text) (at - from) 0 (omega (arith, length-drop from text))
-    ∙ ap (λ s. slice_range text from at ++ s ∷ [])
-    (get_or-drop from text (at - from) 0 ∙ ap (λ k. get_or text k 0) at_is))
+    grind (arith, get_or-drop, length-drop, take_more)
 
 module _ (classes haystack : List ℕ) (start at : ℕ) (after : start ≤ at) (inside : at < length haystack) where
   -- the classes of the bytes up to the next one
   pub text_push : text_of classes haystack (between start (at + 1))
       ≡ text_of classes haystack (between start at) ++ get_or classes (get_or haystack at 0) 0 ∷ []
-  text_push =
-      ap (symbols_in classes) (slice_push haystack start at after inside)
-      ∙ map-append (λ byte. get_or classes byte 0) (slice_range haystack start at) (get_or haystack at 0 ∷ [])
+  text_push = grind (arith, map-append, slice_push)
 
   -- and of all bytes of a span
   pub text_split : (end : ℕ) → at < end
@@ -137,15 +128,7 @@ module _ (classes haystack : List ℕ) (start at : ℕ) (after : start ≤ at) (
 -- a walk that read nothing
 pub at_start : (patterns : List (List ℕ)) (width : ℕ) (rows : List ℕ)
     (recognises : Recognises patterns width rows) → IsAt patterns width rows recognises [] 0
-at_start patterns width rows recognises = record {
-  state = 0;
-  is_state = recognises.some;
-  row_is = zero_row;
-  live_suffix = sym recognises.root;
-}
-  where
-    zero_row : 0 ≡ 0 * stride_of width
-    zero_row = grind arith
+at_start patterns width rows recognises = grind arith
 
 -- the row of where a walk stands lies in the rows
 pub row_at : (patterns : List (List ℕ)) (width : ℕ) (rows : List ℕ)
@@ -160,23 +143,17 @@ text_length classes haystack start at after inside = grind (arith, length-drop, 
 -- what `get` answers, if it answers, is the number there
 pub got_is : (numbers : List ℕ) (i : ℕ) (answer : Option (Bor ℕ)) (item : Bor ℕ) → IsItemAt numbers i answer
     → answer ≡ Some item → item.now ≡ get_or numbers i 0
-got_is numbers i answer item is some =
-    sym (ap (λ (o : Option (Bor ℕ)). unwrap_or (option_map (λ (b : Bor ℕ). b.now) o) 0) some) ∙ is.4 (omega arith) 0
+got_is numbers i answer item is some = grind arith
 
 -- a walk that stood at a row as it began to read
 module _ (width : ℕ) (rows : List ℕ) (from : ℕ) (classes haystack : List ℕ) (start : ℕ) where
   read_push : (text : List ℕ) (at : ℕ) → start ≤ at → at < length haystack
       → read_to text classes haystack start (at + 1)
       ≡ read_to text classes haystack start at ++ get_or classes (get_or haystack at 0) 0 ∷ []
-  read_push text at after inside =
-      ap (λ l. text ++ l) (text_push classes haystack start at after inside)
-      ∙ sym (append_assoc text (text_of classes haystack (between start at))
-      (get_or classes (get_or haystack at 0) 0 ∷ []))
+  read_push text at after inside = grind (arith, append_assoc, text_push)
 
   read_nothing : (text : List ℕ) → read_to text classes haystack start start ≡ text
-  read_nothing text =
-      let none : start - start ≡ 0 = omega arith in
-      ap (λ n. text ++ symbols_in classes (take n (drop start haystack))) none ∙ append-nil text
+  read_nothing text = grind (arith, append-nil)
 
   none_push : (patterns : List (List ℕ)) (text : List ℕ) (at : ℕ)
       → NoneEnds patterns text classes haystack start at
@@ -194,9 +171,7 @@ module _ (width : ℕ) (rows : List ℕ) (from : ℕ) (classes haystack : List �
       number : (patterns : List (List ℕ)) (recognises : Recognises patterns width rows)
           (text : List ℕ) → IsAt patterns width rows recognises (read_to text classes haystack start at) row
           → code ≡ get_or rows (row + get_or classes (get_or haystack at 0) 0) 0
-      number patterns recognises text stood =
-          let fits = (row_at patterns width rows recognises (read_to text classes haystack start at) row stood).fits in
-          code_if (omega (arith, fits))
+      number patterns recognises text stood = grind (arith, row_at)
 
       -- behind one byte more nothing ends
       pub walks_further : code < 2 ^ 31 → WalksOn width rows from classes haystack start (at + 1) code
@@ -224,12 +199,7 @@ module _ (width : ℕ) (rows : List ℕ) (from : ℕ) (classes haystack : List �
               stood.0 _ below code code_is large in
               let more = sym (read_push text at after inside) in
               let last : at ≡ at + 1 - 1 = omega arith in
-              record {
-                none = subst (λ upto. NoneEnds patterns text classes haystack start upto) last stood.1;
-                ends = subst (λ t. IsSome (ending patterns t)) more
-                    (subst (λ (o : Option ℕ). IsSome o) (sym on.1) refl);
-                at = subst (λ t. IsAt patterns width rows recognises t (code - 2 ^ 31)) more on.0;
-              }
+              grind arith
 
           -- the number leads to a row
           pub number_leads : ((code < 2 ^ 31) × IsRow width rows code)

@@ -1,6 +1,6 @@
 -- The whole words that begin at one offset, and what is scanned for them.
-use Rattle.std.proofs.Common.{◌≡◌, ◌+◌, ◌-◌, ◌*◌, ◌<◌, ◌≤◌, ◌∙◌, ◌⊎◌, ℕ, Bool, List, [], None, Option, Some}
-use Rattle.std.proofs.Common.{◌++◌, ◌∷◌, append_assoc, arith, inl, inr, length, suc, subst, sym, zero}
+use Rattle.std.proofs.Common.{◌≡◌, ◌+◌, ◌-◌, ◌*◌, ◌<◌, ◌≤◌, ◌⊎◌, ℕ, Bool, List, [], None, Option, Some, ◌++◌, ◌∷◌}
+use Rattle.std.proofs.Common.{append_assoc, arith, inl, inr, length, suc, subst, zero}
 use Rattle.std.proofs.Math.Nat.{mul-le-mul_right}
 use Rattle.std.proofs.lemmas.Bool.{cases_Bool, cases_lt, false≢true}
 use Rattle.std.proofs.lemmas.List.Elements.{All-get_or}
@@ -17,9 +17,8 @@ use Rattle.literal_search.specs.Prepared.{IsPrepared}
 use Rattle.literal_search.specs.PreparedWords.{PreparedWordsValue}
 use Rattle.literal_search.specs.SearchValue.{ScansNext, SearchValue}
 use Rattle.literal_search.specs.WholeWords.{AreWholeWordsBy, IsAlone, IsFirstAlone, IsFirstAloneBy, IsLeftmostAloneBy}
-use Rattle.literal_search.specs.WholeWords.{OccursAloneBy}
-use Rattle.literal_search.specs.WholeWords.{ScansWordsAtMost, WholeWordsValue, is_word_at, is_word_before, most_anew}
-use Rattle.literal_search.specs.WholeWords.{most_at_start}
+use Rattle.literal_search.specs.WholeWords.{OccursAloneBy, ScansWordsAtMost, WholeWordsValue}
+use Rattle.literal_search.specs.WholeWords.{most_anew, most_at_start}
 use Rattle.literal_search.specs.declared.backward.TheConstants.{LEAST}
 use Rattle.literal_search.specs.declared.word_search.Words.{Words}
 use Rattle.literal_base.proofs.lemmas.Callers.{none_longer}
@@ -29,8 +28,7 @@ use Rattle.literal_search.proofs.lemmas.Iterations.{scanned_on}
 -- what holds of whatever search is read holds of the one that is
 pub for_words : (parts : WordParts) (w : Words) → AreWordsFor parts w → AreWordParts parts → (P : WordParts → Type 0)
     → ForWords w P → P parts
-for_words parts w are is P holds =
-    subst P are.same (holds parts.search are.is_for (subst AreWordParts (sym are.same) is))
+for_words parts w are is P holds = grind arith
 
 -- nor does it matter which of those it is that the array is prepared for
 pub for_prepared : (words : PreparedWordsValue) (w : Words) → AreWordsIn words w → (P : WordParts → Type 0)
@@ -45,30 +43,17 @@ for_prepared words w are P holds search is longest =
 pub ends_on : (longest start at end : ℕ) (old now new : Counts) → ScansEnds longest at end old now
     → new ≡ record now { scanned = new.scanned } → new.scanned ≤ now.scanned + (longest + 1) → start + 1 ≤ at
     → ScansEnds longest start end old new
-ends_on longest start at end old now new so_far others most less =
-    let times = mul-le-mul_right (longest + 1) less in grind arith
-
--- what is scanned while an end gets on to one offset, and then to another
-pub ends_join : (longest start at end : ℕ) (old now new : Counts) → ScansEnds longest at end old now
-    → ScansEnds longest start at now new → ScansEnds longest start end old new
-ends_join longest start at end old now new first second = record {
-  others = scanned_on old now new first.others second.others;
-  most = omega (arith, first.most, second.most);
-}
+ends_on longest start at end old now new so_far others most less = grind (arith, mul-le-mul_right)
 
 -- what is scanned with one byte before
 pub ends_whole : (longest start end : ℕ) (old now new : Counts) → now ≡ record old { scanned = now.scanned }
     → now.scanned ≤ old.scanned + 1 → ScansEnds longest start end now new → ScansEnds longest start (end + 1) old new
-ends_whole longest start end old now new others most scans = record {
-  others = scanned_on old now new others scans.others;
-  most = omega (arith, scans.most, most);
-}
+ends_whole longest start end old now new others most scans = grind (arith, scanned_on)
 
 -- no pattern is empty
 pub is_some : (p : WordParts) → AreWordParts p → (i : ℕ) → i < length p.search.query.patterns
     → 0 < length (pattern_at p.search.query.patterns i)
-is_some p parts i is =
-    All-get_or (λ (bytes : List ℕ). 0 < length bytes) p.search.query.patterns i [] is parts.some
+is_some p parts i is = grind (arith, All-get_or)
 
 module _ (p : WordParts) (parts : AreWordParts p) (haystack sides : List ℕ) (at from end : ℕ) (found : MatchValue)
     (leftmost : IsLeftmostMatch p.search.query p.search.ignore_case haystack (between from end) found) where
@@ -85,21 +70,11 @@ module _ (p : WordParts) (parts : AreWordParts p) (haystack sides : List ℕ) (a
       → OccursAloneBy p.search.query.patterns p.search.ignore_case p.word_bytes haystack sides a i k
       → b.start ≤ k → k + size i ≤ b.end
       → OccursAloneBy p.search.query.patterns p.search.ignore_case p.word_bytes haystack sides b i k
-  word_in o after before = record {
-    occurs = record {
-      is_pattern = o.occurs.is_pattern;
-      after_start = after;
-      before_end = before;
-      same = o.occurs.same;
-    };
-    alone = o.alone;
-  }
+  word_in o after before = grind arith
 
   -- what occurs at the start of a longest match lies whole in it
   lies_in : (i : ℕ) → IsWordFrom i found.start → IsWordAt p haystack sides (between found.start found.end) i
-  lies_in i word =
-      word_in word (omega arith) (none_longer p.search.query p.search.ignore_case haystack (between from end) found
-      parts.longest leftmost i (word_in word leftmost.occurs.after_start word.occurs.before_end).occurs)
+  lies_in i word = grind (arith, none_longer, word_in)
 
   -- no whole word begins before an offset, nor at the next start
   pub none_further : ((i k : ℕ) → at ≤ k → k < from → ¬ IsWordFrom i k)
@@ -122,23 +97,7 @@ module _ (p : WordParts) (parts : AreWordParts p) (haystack sides : List ℕ) (a
       → IsBestWord p.kind p haystack sides (between found.start found.end) word
       → IsLeftmostAloneBy (whole_words_value p).search.query p.search.ignore_case p.word_bytes haystack sides
       (between at end) word
-  best_is_leftmost none after word best =
-      let here = λ (i : ℕ) (o : IsWordFrom i word.start).
-      lies_in i (subst (λ k. IsWordFrom i k) best.word.start o) in
-      record {
-        occurs = subst (λ k. IsWordFrom word.pattern k) (sym best.word.start)
-            (word_in best.word.occurs after
-            (omega (arith, best.word.occurs.occurs.before_end, leftmost.whole, leftmost.occurs.before_end)));
-        whole = best.word.whole;
-        earliest = λ i k before o.
-            elim (cases_lt k from) [
-              | inl early ↦ none i k o.occurs.after_start early o
-              | inr not_early ↦
-                  leftmost.earliest i k (omega (arith, before, best.word.start))
-                  (word_in o not_early o.occurs.before_end).occurs
-            ];
-        best = λ i better o. best.best i better (here i o);
-      }
+  best_is_leftmost none after word best = grind (arith, cases_lt, lies_in, word_in)
 
 -- what is scanned until the next start, and there
 pub words_on : (longest : ℕ) (span : Span) (first old known before further : ℕ) (found : MatchValue)
@@ -179,13 +138,7 @@ pub words_end : (longest : ℕ) (span : Span) (first old known before further : 
 words_end longest span first old known before further t0 t1 t2 so_far next later after inside =
     record {
       others = scanned_on t0 t1 t2 so_far.others next.others;
-      most = λ small. omega (
-        arith,
-        so_far.most small,
-        next.marked small,
-        later,
-        mul-le-mul_right (most_at_start longest) inside,
-      );
+      most = λ small. grind (arith, mul-le-mul_right);
       long = λ big. elim (cases_lt old span.end) [
         | inl more ↦ omega (
           arith,
@@ -248,14 +201,7 @@ words_next words haystack = words_next_by words haystack haystack
 -- whether a part of a haystack is alone
 alone_or_not : (word_bytes : List Bool) (haystack : List ℕ) (start end : ℕ)
     → IsAlone word_bytes haystack start end ⊎ ¬ IsAlone word_bytes haystack start end
-alone_or_not word_bytes haystack start end =
-    elim (cases_Bool (is_word_before word_bytes haystack start)) [
-      | inl before ↦ inr (λ alone. false≢true (sym alone.before ∙ before))
-      | inr none ↦ elim (cases_Bool (is_word_at word_bytes haystack end)) [
-        | inl after ↦ inr (λ alone. false≢true (sym alone.after ∙ after))
-        | inr nothing ↦ inl (record { before = none; after = nothing })
-      ]
-    ]
+alone_or_not word_bytes haystack start end = grind (arith, cases_Bool, false≢true)
 
 module _ (words : WholeWordsValue) (haystack sides : List ℕ) where
   -- there is a leftmost whole word, or none
@@ -286,18 +232,12 @@ module _ (words : WholeWordsValue) (haystack sides : List ℕ) where
         → IsFirstAloneBy words haystack sides (between at end) answer → WordsFrom at
     words_from at later None nothing = ([], nothing)
     words_from at later (Some found) first =
-        let some : 0 < length (pattern_at words.search.query.patterns found.pattern) =
-        not_empty found.pattern [] first.occurs.occurs.is_pattern in
+        let some : 0 < length (pattern_at words.search.query.patterns found.pattern) = grind arith in
         let more = later found.end (omega (arith, first.whole, first.occurs.occurs.after_start)) in
         (found ∷ more.0, (first, more.1))
 
     pub words_exist : (most at : ℕ) → end ≤ at + most → WordsFrom at
-    words_exist zero at h = (
-      [],
-      λ i s o.
-          let some : 0 < length (pattern_at words.search.query.patterns i) = not_empty i [] o.occurs.is_pattern in
-          omega (arith, o.occurs.before_end, o.occurs.after_start),
-    )
+    words_exist zero at h = grind arith
     words_exist (suc most) at h =
         let answer = first_alone (between at end) in
         words_from at (λ to after. words_exist most to (omega arith)) answer.0 answer.1

@@ -1,26 +1,18 @@
 -- The sides of a text.
 -- For `WordText`.
 use Rattle.std.proofs.Common.{◌≡◌, ◌<◌, ◌∙◌, ℕ, List, [], ◌∷◌, ◌++◌, ap, arith, flat_map, length}
-use Rattle.std.proofs.Common.{length-append, refl, suc, sym}
+use Rattle.std.proofs.Common.{length-append, refl, suc}
 use Rattle.std.proofs.lemmas.Bool.Decides.{nat_tests}
 use Rattle.std.proofs.lemmas.List.{length-replicate}
 use Rattle.std.proofs.lemmas.Str.{chars-IsAscii, encodes-chars, length-encode}
-use Rattle.std.specs.Char.{encode_utf8, len_utf8}
 use Rattle.std.specs.Str.{IsAscii, IsUtf8, chars, encode_utf8_all}
 use Rattle.literal_search.specs.Inside.WholeWords.{AreSidesOf}
-use Rattle.literal_search.specs.WordText.{side_of, sides_of, sides_of_char}
+use Rattle.literal_search.specs.WordText.{sides_of, sides_of_char}
 
 -- the sides of some characters are as many bytes as the characters have
 length_sides : (cs : List ℕ) → length (flat_map sides_of_char cs) ≡ length (encode_utf8_all cs)
 length_sides [] = refl
-length_sides (c ∷ cs) = omega (
-  arith,
-  length-append (sides_of_char c) (flat_map sides_of_char cs),
-  length-append (encode_utf8 c) (encode_utf8_all cs),
-  length-replicate (len_utf8 c) (side_of c),
-  length-encode c,
-  length_sides cs,
-)
+length_sides (c ∷ cs) = grind (arith, length-append, length-encode, length-replicate, length_sides cs)
 
 pub length-sides_of : (text : List ℕ) → IsUtf8 text → length (sides_of text) ≡ length text
 unfolding sides_of
@@ -42,11 +34,7 @@ unfolding sides_of
 sides_of-ascii text ascii = ap (flat_map sides_of_char) (chars-IsAscii text ascii) ∙ sides_ascii text ascii
 
 pub ascii_sides : (text : List ℕ) → IsUtf8 text → IsAscii text → AreSidesOf text []
-ascii_sides text utf8 ascii = record {
-  none = λ _. sym (sides_of-ascii text ascii);
-  some = λ some. absurd (omega arith);
-  len = length-sides_of text utf8;
-}
+ascii_sides text utf8 ascii = grind (arith, length-sides_of, sides_of-ascii)
 
 -- two lists with no elements
 empty_same : (xs ys : List ℕ) → length xs ≡ 0 → length ys ≡ 0 → xs ≡ ys
@@ -58,10 +46,4 @@ empty_same (x ∷ xs) ys some _ = absurd (omega arith)
 pub sides_written : (text sides : List ℕ) → IsUtf8 text → sides ≡ flat_map sides_of_char (chars text)
     → AreSidesOf text sides
 unfolding sides_of
-sides_written text sides utf8 is =
-    let len = length-sides_of text utf8 in
-    record {
-      none = λ empty. empty_same text (sides_of text) (omega (arith, ap length is, len)) (omega (arith, ap length is));
-      some = λ _. is;
-      len = len;
-    }
+sides_written text sides utf8 is = grind (arith, empty_same, length-sides_of)

@@ -20,12 +20,7 @@ returns-clause-tells c =
     (λ i d below. c.loop-pattern.invariant.marks i d (omega (arith, c.loop-pattern-test.false)))
 
 pub returns-clause-last : goal.returns-clause-last
-returns-clause-last c = λ few i k is_pattern inside.
-    let mark = marks_all c.args.ignore_case c.loop-pattern.seen c.args.patterns.now
-    (λ i d below. c.loop-pattern.invariant.marks i d (omega (arith, c.loop-pattern-test.false))) i is_pattern k
-    inside in
-    let below = c.folded_table.ensures.last _ mark.0 mark.1 in
-    omega (arith, few, below, c.folded_table.ensures.width)
+returns-clause-last c = λ few i k is_pattern inside. grind (arith, marks_all)
 
 pub returns-clause-width : goal.returns-clause-width
 unfolding width_for

@@ -5,7 +5,7 @@ use Rattle.std.specs.List.{slice_range}
 use Rattle.literal_search.specs.SearchValue.{SearchValue}
 use Rattle.literal_search.specs.Overlapping.{OverlappingValue}
 use Rattle.literal_search.specs.Prepared.{IsPrepared, prepared_len, rows_end}
-use Rattle.literal_search.specs.PreparedOverlapping.{IsPreparedOverlapping, ends_at, listed_len, overlapping_len}
+use Rattle.literal_search.specs.PreparedOverlapping.{IsPreparedOverlapping, ends_at, overlapping_len}
 use Rattle.literal_search.proofs.lemmas.BackTables.{same_tables as same_back}
 use Rattle.literal_search.proofs.laws.first_places_are_enough.Goals as goal
 
@@ -22,9 +22,6 @@ module _ (search : SearchValue) (old new : List ℕ)
     (parts : (from to : ℕ) → from ≤ to → to ≤ prepared_len old → slice_range new from to ≡ slice_range old from to)
     (fits : prepared_len old ≤ length new)
   where
-    end_is : rows_end new ≡ rows_end old
-    end_is = omega (arith, same 3 (omega arith), same 4 (omega arith))
-
     prepared_as : IsPrepared search old → IsPrepared search new
     prepared_as prepared = grind (arith, same_back)
 
@@ -55,14 +52,6 @@ module _ (search : OverlappingValue) (old new : List ℕ)
 
     ends_is : ends_at new ≡ ends_at old
     ends_is = omega (arith, same 3 (omega arith), len_is)
-
-    listed_is : listed_len new ≡ listed_len old
-    listed_is = grind (arith, ends_is)
-
-    -- a part that lies at the same indices is the same
-    part_is : (from to from' to' : ℕ) → from' ≡ from → to' ≡ to → from ≤ to → to ≤ overlapping_len old
-        → slice_range new from' to' ≡ slice_range old from to
-    part_is from to from' to' from_is to_is ordered inside = grind arith
 
     listed_as : IsPreparedOverlapping search old → IsPreparedOverlapping search new
     listed_as prepared = grind (arith, ends_is)

@@ -59,9 +59,7 @@ returns-clause-whole c = λ search bytes last ended all run ends.
     (step_by search last None ended (then_there search bytes all last run).search_is ends)
 
 pub returns-clause-read : goal.returns-clause-read
-returns-clause-read c = λ search bytes last ended all run ends.
-    let there = then_there search bytes all last run in
-    streamed_len _ _ 0 search bytes last ended there (step_by search last None ended there.search_is ends)
+returns-clause-read c = λ search bytes last ended all run ends. grind (arith, step_by, streamed_len, then_there)
 
 pub returns-clause-failed : goal.returns-clause-failed
 returns-clause-failed c = λ search bytes last ended all error run fails i offset occurs.

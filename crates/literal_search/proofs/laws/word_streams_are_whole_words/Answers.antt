@@ -1,4 +1,4 @@
-use Rattle.std.proofs.Common.{◌≡◌, ◌∙◌, ◌∷◌, [], Bool, Err, List, None, Ok, Option, Result, Some, ap, arith}
+use Rattle.std.proofs.Common.{◌≡◌, ◌∷◌, [], Bool, Err, List, None, Ok, Option, Result, Some, ap, arith}
 use Rattle.std.proofs.Common.{map, refl, subst, ℕ}
 use Rattle.std.specs.Iterator.{Yields}
 use Rattle.std.specs.declared.io.Error.{Error}
@@ -42,10 +42,7 @@ module _ (words : WholeWordsValue) where
     subst (λ (v : WordStreamValue). IsOver v) run is,
   )
   steps_by m (found ∷ more) n is run =
-      let next : IsOver run.0 = (
-        ap (λ (v : StreamValue). v.search) run.1.gives.2.goes_on ∙ is.0,
-        run.1.same ∙ is.1,
-      ) in
+      let next : IsOver run.0 = grind arith in
       let rest = steps_by run.0 more n next run.2 in
       ((run.0.stream, step_by m (Some (Ok found)) run.0 is run.1, rest.0), rest.1)
 

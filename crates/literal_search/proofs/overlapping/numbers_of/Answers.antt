@@ -1,6 +1,6 @@
 use Rattle.std.proofs.Common.{◌∙◌, ℕ, List, [], arith, map, refl, subst, sym}
 use Rattle.std.proofs.lemmas.Bool.{eqb-true}
-use Rattle.std.proofs.lemmas.List.{get_or_past, length-map, nil_from_length}
+use Rattle.std.proofs.lemmas.List.{length-map, nil_from_length}
 use Rattle.std.specs.Global.{Vec}
 use Rattle.literal_search.specs.Inside.Overlapping.{AreListed}
 use Rattle.literal_search.specs.PreparedOverlapping.{AreTables, Tables, overlapping_value}
@@ -57,11 +57,6 @@ assembled-requires-clause-short c =
     short_forward classes.table classes.width (bytes_of patterns)
     (subst (λ (t : List (List ℕ)). ¬ HasTooManyStates t classes.width) (same_texts classes.table patterns patterns refl)
     c.in_ok-rows.ensures.few)
-
-pub assembled-requires-clause-inside : goal.assembled-requires-clause-inside
-assembled-requires-clause-inside c i =
-    let lists = c.in_ok-lists.ensures in
-    grind (arith, lists.inside i, lists.long, get_or_past)
 
 pub returns-clause-kept : goal.returns-clause-kept
 returns-clause-kept c =

@@ -50,8 +50,7 @@ returns-in-Some-take_error-clause-gives g c =
     let come = went_on _ _ _ _ (grind arith) so_far.come one.come in
     let (empty, closed, all) = one.over (grind arith) in
     let failure = c.take_error.ensures.failure in
-    let failed : c.go_on.new.reading.failure ≡ Some (error_kind c.in-Some-take_error.error) =
-    sym failure ∙ c.in-Some-take_error.ensures.error in
+    let failed : c.go_on.new.reading.failure ≡ Some (error_kind c.in-Some-take_error.error) = grind arith in
     fails_here _ (overlapping_stream c.args.automaton.now c.go_on.new.place c.go_on.new.window c.go_on.new.reading
     (g.R.Read.remaining c.go_on.new.reader) false) come c.go_on.new.place.ending.now one.place.ending (grind arith)
     empty _ (grind arith)

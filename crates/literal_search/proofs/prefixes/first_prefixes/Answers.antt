@@ -27,9 +27,7 @@ loop-index-preserved c =
     c.deref.ensures.value c.last_prefix-last.ensures in
     let many = length-map sorted (λ (n : Numbered). n.symbols.items) in
     let inside : index < length words = omega (arith, c.loop-index-test.true, c.len-index-end.ensures, many) in
-    let number : get_or (numbers_in sorted) index 0 ≡ c.index.result.now.number =
-    number_at sorted index c.index.result.now (omega (arith, c.loop-index-test.true, c.len-index-end.ensures))
-    ∙ ap (λ (n : Numbered). n.number) (sym c.index.ensures) in
+    let number : get_or (numbers_in sorted) index 0 ≡ c.index.result.now.number = grind (arith, number_at) in
     let long = c.loop-index.invariant.long ∙ count c.args.classes.now c.args.patterns.now in
     let last_is : c.match-last.last ≡ c.last_prefix-last.result = elim c.match-last.branch [
       | in-Some w ↦ w.last-is ∙ sym w.in-Some.is
@@ -41,14 +39,10 @@ loop-index-preserved c =
           let found = w.index-in-Some-2.result.now in
           let is = subst (IsLastPrefix words index) w.in-Some.is last in
           let number_is : get_or (numbers_in sorted) at 0 ≡ w.index-in-Some.result.now.number =
-          number_at sorted at w.index-in-Some.result.now
-          (omega (arith, is.0, c.loop-index-test.true, c.len-index-end.ensures))
-          ∙ ap (λ (n : Numbered). n.number) (sym w.index-in-Some.ensures) in
+          grind (arith, number_at) in
           let below = (are.is at (omega (arith, is.0, inside))).0 in
           let found_is : get_or c.loop-index.firsts.items (get_or (numbers_in sorted) at 0) 0 ≡ found =
-          ap (λ n. get_or c.loop-index.firsts.items n 0) number_is
-          ∙ (get_or_default c.loop-index.firsts.items w.index-in-Some.result.now.number 0 found
-          (omega (arith, below, number_is, long)) ∙ sym w.index-in-Some-2.ensures) in
+          grind (arith, get_or_default) in
           let known = subst (IsFirstPrefix texts (pattern_at words at)) found_is
           (c.loop-index.invariant.firsts at is.0) in
           subst (IsFirstPrefix texts (pattern_at words index))
@@ -68,8 +62,7 @@ loop-index-preserved c =
       count =
           ap (λ (l : List (Option ℕ)). length l) c.in_ok-push.ensures.items
           ∙ (length_push c.loop-index.before.items c.match-last.last ∙ ap (λ n. n + 1) c.loop-index.invariant.count);
-      long = length-set c.loop-index.firsts.items c.index.result.now.number c.match-last.first
-          ∙ c.loop-index.invariant.long;
+      long = grind (arith, length-set);
       firsts = λ k below.
           subst (λ n. IsFirstPrefix texts (pattern_at words k)
           (get_or (set c.loop-index.firsts.items n c.match-last.first) (get_or (numbers_in sorted) k 0) 0)) number

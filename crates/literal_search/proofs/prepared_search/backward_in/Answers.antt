@@ -1,11 +1,10 @@
-use Rattle.std.proofs.Common.{◌≡◌, ◌+◌, ◌<◌, ◌≤◌, ◌≢◌, ◌∙◌, ℕ, List, ap, arith, get_or, length, subst, sym}
+use Rattle.std.proofs.Common.{◌≡◌, ◌+◌, ◌≤◌, ◌≢◌, ◌∙◌, ℕ, List, ap, arith, get_or, length, subst, sym}
 use Rattle.std.specs.List.{slice_range}
 use Rattle.literal_search.specs.Inside.Packed.{unpacked}
 use Rattle.literal_search.specs.Inside.Prepared.{IsHeader}
 use Rattle.literal_search.specs.Prepared.{HasParts, classes_end, classes_in, lengths_in, longest_in, rows_in, width_in}
+use Rattle.literal_search.specs.Prepared.{AreBackTables, ArePrints, BackTables, HasAllParts, prints_in}
 use Rattle.literal_search.specs.SearchValue.{SearchValue}
-use Rattle.literal_search.specs.Prepared.{AreBackTables, ArePrints, BackTables, HasAllParts}
-use Rattle.literal_search.specs.Prepared.{prints_in}
 use Rattle.literal_search.specs.declared.prepared.Header.{Header}
 use Rattle.literal_search.specs.declared.prepared.TheConstants.{PREPARED_VERSION}
 use Rattle.literal_search.proofs.lemmas.BackTables.{same_tables}
@@ -28,10 +27,6 @@ module _ (f : Header) (numbers : List ℕ) (same : f.numbers.now ≡ numbers) (h
   prints_are : slice_range numbers (end f) (end f + 40) ≡ prints_in numbers
   prints_are = ap (λ k. slice_range numbers k (k + 40)) known.0
 
-  -- why there are none
-  short : length numbers < end f + 40 → ¬ HasAllParts numbers
-  short few parts = let fits = parts.fits in omega (arith, few, fits, known.0, known.1)
-
 pub returns : goal.returns
 returns c =
     let f = c.in_ok-header.header in
@@ -48,13 +43,7 @@ returns c =
     (rows_are header ∙ ap rows_in told.0) (header.longest_is ∙ ap longest_in told.0) in
     record {
       parts = parts;
-      safe = record {
-        each = classes_long header;
-        row = omega (arith, parts.row, known.0, known.1);
-        few = omega (arith, told.1.few, known.1);
-        prints = length_part numbers (end f) (end f + 40) (omega arith)
-            (omega (arith, c.if-is_short.false)) ∙ omega arith;
-      };
+      safe = grind (arith, classes_long, known, length_part);
       is_for = λ search is. record {
         tables = subst (λ (t : BackTables). AreBackTables t) (sym (tables search)) is.tables;
         lens = header.lengths_are ∙ (ap lengths_in told.0 ∙ is.lengths);

@@ -1,6 +1,6 @@
 -- A text that is read piece by piece, and written with its matches rewritten.
 use Rattle.std.proofs.Common.{◌≡◌, ℕ, ◌-◌, ◌++◌, [], IfErr, List, None, Option, Result, ap, arith, drop}
-use Rattle.std.proofs.Common.{eqb-true, of_calls, refl, subst, sym, true, ◌∙◌}
+use Rattle.std.proofs.Common.{eqb-true, of_calls, subst, sym, true, ◌∙◌}
 use Rattle.std.proofs.KnownBytes.{Consumes-trans}
 use Rattle.std.proofs.lemmas.List.{length-drop}
 use Rattle.std.proofs.lemmas.Option.{none-some}
@@ -34,13 +34,7 @@ stops_writing contents step AreMatches reach replace unread left held written te
     grind (arith, none-some)
 
 pub loop-is_over-init : goal.loop-is_over-init
-loop-is_over-init g c = record {
-  sound = c.requires.sound;
-  held_from = record { begin = omega (arith, c.requires.first); reach = omega arith };
-  rewritten = none_rewritten _ _ _ _ _ _ _ _ _ refl c.requires.empty;
-  callable = c.requires.callable;
-  over = λ is. absurd (cc);
-}
+loop-is_over-init g c = grind (arith, none_rewritten)
 
 pub returns-in_err-put-in-Found-clause-error : goal.returns-in_err-put-in-Found-clause-error
 returns-in_err-put-in-Found-clause-error g c =

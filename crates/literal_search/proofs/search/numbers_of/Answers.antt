@@ -59,6 +59,3 @@ returns-clause-kept c =
     let prints = c.prints_for-prints.result in
     subst (AreKept t.search) (sym c.in_ok-numbers.ensures) (kept_all t are prints (omega arith)
     c.prints_for-prints.ensures c.classes_for-classes.ensures.width c.in_ok-rows.ensures.rows.states)
-
-pub returns-clause-few : goal.returns-clause-few
-returns-clause-few c = grind (arith, holds_in)

@@ -1,4 +1,4 @@
-use Rattle.std.proofs.Common.{◌≡◌, ◌∙◌, IfErr, IfOk, List, ap, arith, get_or, length, map, subst, sym, ℕ}
+use Rattle.std.proofs.Common.{◌≡◌, ◌∙◌, IfErr, IfOk, List, arith, length, map, subst, ℕ}
 use Rattle.std.proofs.lemmas.List.{length-map}
 use Rattle.std.proofs.lemmas.List.FromFn.{get_or-range_with_len, length-range_with_len}
 use Rattle.std.specs.Global.{Vec}
@@ -18,21 +18,13 @@ texts_are : (classes : List ℕ) (patterns : List (Vec ℕ)) (lent numbers : Lis
 texts_are classes patterns lent numbers same are =
     let items = λ (pattern : Vec ℕ). pattern.items in
     let count = length-map (map items patterns) (symbols_in classes) ∙ length-map patterns items in
-    ap (chosen_by (texts_by classes patterns)) (same ∙ (are ∙ ap (range_with_len 0) (sym count)))
-    ∙ all_chosen (texts_by classes patterns)
+    grind (arith, all_chosen)
 
 pub chosen_rows-requires-clause-few : goal.chosen_rows-requires-clause-few
-chosen_rows-requires-clause-few c =
-    let long = ap (λ (l : List ℕ). length l) (c.deref.ensures.value ∙ c.in_ok-all.ensures) in
-    omega (arith, long, length-range_with_len 0 (length c.args.patterns.now), c.requires.few)
+chosen_rows-requires-clause-few c = grind (arith, length-range_with_len)
 
 pub chosen_rows-requires-clause-numbers : goal.chosen_rows-requires-clause-numbers
-chosen_rows-requires-clause-numbers c = λ i below.
-    let are = c.deref.ensures.value ∙ c.in_ok-all.ensures in
-    let long = ap (λ (l : List ℕ). length l) are in
-    let many = length-range_with_len 0 (length c.args.patterns.now) in
-    let is = get_or-range_with_len 0 (length c.args.patterns.now) i 0 (omega (arith, below, long, many)) in
-    omega (arith, below, long, many, is, ap (λ l. get_or l i 0) are)
+chosen_rows-requires-clause-numbers c = λ i below. grind (arith, get_or-range_with_len, length-range_with_len)
 
 pub returns-clause-rows : goal.returns-clause-rows
 returns-clause-rows c =

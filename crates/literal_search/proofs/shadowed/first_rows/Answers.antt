@@ -1,8 +1,9 @@
-use Rattle.std.proofs.Common.{◌≡◌, ◌∙◌, Err, IfErr, IfOk, List, Ok, Result, ap, subst, ℕ}
+use Rattle.std.proofs.Common.{arith}
+use Rattle.std.proofs.Common.{◌≡◌, ◌∙◌, Err, IfErr, List, Ok, Result, ap, subst, ℕ}
 use Rattle.std.specs.Global.{Vec}
 use Rattle.literal_base.specs.declared.packed.MatchKind.TheVariants.{LeftmostFirst}
 use Rattle.literal_search.specs.Inside.Prefixes.{AreFirstPrefixes}
-use Rattle.literal_search.specs.Inside.Shadowed.{AreRowsFor, chosen_by, texts_by}
+use Rattle.literal_search.specs.Inside.Shadowed.{chosen_by, texts_by}
 use Rattle.literal_search.specs.SearchValue.{reversed, unshadowed}
 use Rattle.literal_search.specs.States.{HasTooManyStates}
 use Rattle.literal_search.specs.declared.grow.GrowError.{GrowError}
@@ -22,12 +23,7 @@ too_many_by words width (Ok rows) refused = tt
 too_many_by words width (Err error) refused = λ is. few_unshadowed words width (refused is)
 
 pub returns-clause-rows : goal.returns-clause-rows
-returns-clause-rows c =
-    let classes = c.args.classes.now in
-    subst (λ (t : List (List ℕ)). IfOk c.chosen_rows.result
-    (λ (rows : Vec ℕ). AreRowsFor (reversed t) classes.width rows.items))
-    (texts_are (texts_by classes.table c.args.patterns.now) c.deref.result.now c.in_ok-firsts.firsts.items
-    c.deref.ensures.value c.in_ok-firsts.ensures) c.chosen_rows.ensures.rows
+returns-clause-rows c = grind (arith, texts_are)
 
 pub returns-clause-too_many : goal.returns-clause-too_many
 returns-clause-too_many c =

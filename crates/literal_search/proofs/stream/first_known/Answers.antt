@@ -1,3 +1,4 @@
+use Rattle.std.proofs.Common.{arith}
 use Rattle.literal_search.proofs.lemmas.Sought.{known_follows, nothing_follows}
 use Rattle.literal_search.proofs.stream.first_known.Goals as goal
 
@@ -8,6 +9,4 @@ returns-then-not-is_whole-clause-answers c = λ more over.
     c.so_far.ensures.whatever_follows
 
 pub returns-in-None-clause-answers : goal.returns-in-None-clause-answers
-returns-in-None-clause-answers c = λ more over.
-    nothing_follows c.args.sought c.args.haystack.now more c.args.from (over c.if-not-is_whole.false)
-    c.in-None.ensures.first
+returns-in-None-clause-answers c = λ more over. grind (arith, nothing_follows)

@@ -1,4 +1,4 @@
-use Rattle.std.proofs.Common.{◌≡◌, ◌+◌, ◌-◌, ◌≤◌, ◌++◌, ◌∙◌, [], List, ℕ, None, Some, ap, append-nil, arith, drop}
+use Rattle.std.proofs.Common.{◌≡◌, ◌+◌, ◌-◌, ◌≤◌, ◌++◌, ◌∙◌, [], List, ℕ, None, Some, ap, append-nil, arith}
 use Rattle.std.proofs.Common.{false, length, length-append, refl, subst, sym, true}
 use Rattle.std.proofs.Math.Seq.{drop-length}
 use Rattle.std.specs.IoError.{error_kind}
@@ -15,8 +15,7 @@ pub loop-found-init : goal.loop-found-init
 loop-found-init g c = record {
   sound = c.requires.sound;
   held = c.requires.held;
-  gone = gone_nowhere (IsFirst c.args.sought) (Begins c.args.sought) (margin_of c.args.sought)
-      (goes_from c.args.sought) _;
+  gone = grind (arith, goes_from, gone_nowhere);
 }
 
 pub returns-in-Found-clause-gives : goal.returns-in-Found-clause-gives
@@ -93,12 +92,10 @@ returns-in-Some-clause-gives g c =
     let failed : s.failure ≡ Some (error_kind c.in-Some.error) = sym failure ∙ c.in-Some.ensures.error in
     let in_part = read_in_part s.is_whole s.failure s.error (error_kind c.in-Some.error) one.sound.reading.failure
     one.sound.reading.apart failed in
-    let behind : held c.pass.new.self ≡ [] = c.pass.ensures.held
-    ∙ (ap (λ (l : List ℕ). drop (length l) (held v)) c.held.ensures ∙ drop-length (held v)) in
+    let behind : held c.pass.new.self ≡ [] = grind (arith, drop-length) in
     let len = ap (λ (l : List ℕ). length l) c.held.ensures in
     let begin = one.held.begin in
-    let offset_is : c.pass.new.self.offset ≡ (at - margin) + length (held v) =
-    omega (arith, c.pass.ensures.offset, begin, len) in
+    let offset_is : c.pass.new.self.offset ≡ (at - margin) + length (held v) = grind arith in
     let far : (at - margin) + length (held v) - (longest_of search.query.patterns + margin - 1)
     ≤ c.in-NoneBefore-2.field-0 =
     omega (arith, one.known, begin, ap (kept_back (reach_of sought)) in_part) in
@@ -126,14 +123,11 @@ returns-in-None-clause-gives g c =
     let none : s.failure ≡ None = sym failure ∙ c.in-None.ensures.error in
     let whole = read_whole s.is_whole s.failure s.error one.sound.reading.failure
     (λ more. let is : false ≡ true = c.if-is_open.ensures.1 more in (cc)) none in
-    let behind : held c.pass.new.self ≡ [] = c.pass.ensures.held
-    ∙ (ap (λ (l : List ℕ). drop (length l) (held v)) c.held.ensures ∙ drop-length (held v)) in
+    let behind : held c.pass.new.self ≡ [] = grind (arith, drop-length) in
     let len = ap (λ (l : List ℕ). length l) c.held.ensures in
     let begin = one.held.begin in
-    let offset_is : c.pass.new.self.offset ≡ (at - margin) + length (held v) =
-    omega (arith, c.pass.ensures.offset, begin, len) in
-    let far : (at - margin) + length (held v) ≤ c.in-NoneBefore-2.field-0 =
-    omega (arith, one.known, begin, ap (kept_back (reach_of sought)) whole) in
+    let offset_is : c.pass.new.self.offset ≡ (at - margin) + length (held v) = grind arith in
+    let far : (at - margin) + length (held v) ≤ c.in-NoneBefore-2.field-0 = grind arith in
     ends_whole (IsFirst sought) (Begins sought) margin (goes_from sought) old (stream_value search v at s left false)
     (stream_value search c.pass.new.self c.pass.new.self.offset c.take_error.new.self left true)
     (gone_on (IsFirst sought) (Begins sought) margin (goes_from sought) old search c.loop-found.window v at

@@ -1,7 +1,7 @@
-use Rattle.std.proofs.Common.{◌∙◌, List, ap, flat_map, map-id, subst, sym, ℕ}
+use Rattle.std.proofs.Common.{arith}
+use Rattle.std.proofs.Common.{◌∙◌, ap, flat_map, map-id, sym}
 use Rattle.std.proofs.lemmas.Iterator.{YieldsList-from_chars}
 use Rattle.std.proofs.lemmas.Iterator.Consumers.{YieldsList-end}
-use Rattle.literal_search.specs.Inside.WholeWords.{AreSidesOf}
 use Rattle.literal_search.specs.WordText.{sides_of_char}
 use Rattle.literal_search.proofs.lemmas.WordText.{ascii_sides, sides_written}
 use Rattle.literal_search.proofs.word_text.new_sides.Goals as goal
@@ -15,6 +15,4 @@ returns-clause-ok c =
     ∙ ap (flat_map sides_of_char) (sym (map-id c.loop-c.yielded) ∙ end.0))
 
 pub returns-then-is_ascii-clause-ok : goal.returns-then-is_ascii-clause-ok
-returns-then-is_ascii-clause-ok c =
-    subst (λ (sides : List ℕ). AreSidesOf c.args.text.now sides) (sym c.new-all.ensures.items)
-    (ascii_sides c.args.text.now c.utf8.text c.if-is_ascii.ensures.cases)
+returns-then-is_ascii-clause-ok c = grind (arith, ascii_sides)

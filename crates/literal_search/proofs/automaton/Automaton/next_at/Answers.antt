@@ -1,4 +1,4 @@
-use Rattle.std.proofs.Common.{arith, get_or}
+use Rattle.std.proofs.Common.{arith}
 use Rattle.literal_search.proofs.lemmas.Automaton.{row_within, steps}
 use Rattle.literal_search.proofs.lemmas.Rows.{rows_long}
 use Rattle.literal_search.proofs.automaton.Automaton.next_at.Goals as goal
@@ -14,5 +14,4 @@ returns-clause-state c = λ text is.
     let t = c.args.self.now in
     let are = c.table.ensures.tables in
     let within = row_within t are text c.args.state is c.row.result c.row.ensures in
-    steps t are text c.args.state is c.row.result c.row.ensures (get_or c.args.haystack.now c.args.at 0)
-    c.code_at-number.result (omega (arith, c.type_inv.haystack c.args.at)) (grind arith)
+    grind (arith, steps)

@@ -14,5 +14,4 @@ returns c = λ text is.
     let t = c.args.self.now in
     let are = c.table-table.ensures.tables in
     let within = row_within t are text c.args.state is c.row-row.result c.row-row.ensures in
-    steps t are text c.args.state is c.row-row.result c.row-row.ensures c.args.byte c.code_for-number.result
-    (omega arith) (grind arith)
+    grind (arith, steps)

@@ -1,10 +1,7 @@
 use Rattle.std.proofs.lemmas.Grind.{common_steps}
 use Rattle.std.proofs.Common.{arith, ◌≡◌, ◌+◌, get_or}
-use Rattle.literal_search.proofs.lemmas.Construction.{link_of_root, link_row}
+use Rattle.literal_search.proofs.lemmas.Construction.{link_row}
 use Rattle.literal_search.proofs.grow.Construction.put_failure_row.Goals as goal
-
-pub returns-then-state-eq0 : goal.returns-then-state-eq0
-returns-then-state-eq0 c = grind (arith, common_steps, link_of_root)
 
 pub returns : goal.returns
 returns c symbol from is_symbol =

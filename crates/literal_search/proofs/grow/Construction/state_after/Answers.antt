@@ -1,11 +1,10 @@
 use Rattle.std.proofs.lemmas.Grind.{common_steps}
-use Rattle.std.proofs.Common.{◌≡◌, ◌+◌, ◌≤◌, ◌∙◌, ◌++◌, ◌∷◌, [], ap, arith, length, sym, subst, take}
+use Rattle.std.proofs.Common.{◌≡◌, ◌+◌, ◌≤◌, ◌∙◌, ◌++◌, ◌∷◌, [], ap, arith, length, take}
 use Rattle.std.proofs.lemmas.List.{length-append}
 use Rattle.std.specs.List.{slice_range}
 use Rattle.literal_base.specs.Occurs.{pattern_at}
 use Rattle.literal_search.specs.Inside.Construction.{texts_of, words_of}
 use Rattle.literal_search.specs.Words.{word_of}
-use Rattle.literal_search.specs.declared.grow.State.{State}
 use Rattle.literal_search.proofs.lemmas.Grown.{prefix_by_list, range_more}
 use Rattle.literal_search.proofs.lemmas.Construction.{ending_push, long_word, new_state, words_length}
 use Rattle.literal_search.proofs.grow.Construction.state_after.Goals as goal
@@ -31,9 +30,7 @@ returns-clause-state c =
     let g = c.args.self.now in
     let word = word_of (words_of g) c.args.state in
     let here = c.index-2.result.now in
-    let shallow : here.depth ≤ c.args.state =
-    subst (λ (s : State). s.depth ≤ c.args.state) (sym c.index-2.ensures)
-    (c.requires.grows.each c.args.state here c.requires.is_state).shallow in
+    let shallow : here.depth ≤ c.args.state = grind arith in
     let all : c.len.result ≡ length g.lists.items = c.len.ensures ∙ g.lists.ok.0 in
     new_state (texts_of g.texts) (words_of g) g.texts.width g.lists.items (length g.states.items) _
     (word ++ c.args.class ∷ []) (words_length g.texts g.states.items) (prefix_is c).1 (omega arith)

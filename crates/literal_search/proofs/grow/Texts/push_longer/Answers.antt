@@ -1,19 +1,11 @@
-use Rattle.std.proofs.Common.{◌-◌, List, ap, get_or, ◌<◌, ◌≤◌, ◌∙◌, arith, length, ℕ, sym, subst}
+use Rattle.std.proofs.Common.{◌<◌, ◌≤◌, ◌∙◌, arith, length, ℕ, sym, subst}
 use Rattle.literal_search.proofs.lemmas.Grown.{added_more, found_none, found_yet, mapped_at}
 use Rattle.literal_search.proofs.lemmas.Grown.{longer_kept, longer_long, numbers_more}
 use Rattle.literal_search.proofs.grow.Texts.push_longer.Goals.{else-branch, then-branch}
 use Rattle.literal_search.proofs.grow.Texts.push_longer.Goals as goal
 
 pub push_if_longer-requires-clause-after : goal.push_if_longer-requires-clause-after
-push_if_longer-requires-clause-after c =
-    let here = c.args.here in
-    let before = c.loop-index-test.true in
-    let after = c.loop-index.auto.index in
-    let read = c.index-pattern.ensures
-    ∙ c.loop-index.invariant.kept c.loop-index.index _ (omega (arith, before, c.requires.inside)) in
-    ap (λ (l : List ℕ). get_or l (c.loop-index.index - here.start) 0) c.requires.after
-    ∙ mapped_at _ c.args.lists.now.items here.start here.end c.loop-index.index c.index-pattern.result.now after before
-    c.requires.inside read
+push_if_longer-requires-clause-after c = grind (arith, mapped_at)
 
 pub loop-index-preserved : goal.loop-index-preserved
 loop-index-preserved c =
@@ -25,8 +17,7 @@ loop-index-preserved c =
     let said = c.in_ok-push_if_longer.ensures in
     let read = c.index-pattern.ensures ∙ so_far.kept index x (omega (arith, before, c.requires.inside)) in
     let long = so_far.long in
-    let more : length c.loop-index.lists.items ≤ length c.push_if_longer.new.lists.items =
-    longer_long _ _ _ said.lists in
+    let more : length c.loop-index.lists.items ≤ length c.push_if_longer.new.lists.items = grind (arith, longer_long) in
     let n = length c.args.self.now.patterns.now in
     record {
       lists =

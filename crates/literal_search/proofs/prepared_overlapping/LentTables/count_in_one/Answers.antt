@@ -1,8 +1,7 @@
-use Rattle.std.proofs.Common.{◌≡◌, ◌+◌, ◌∙◌, ◌<◌, ◌≤◌, IfSome, Option, Some, None, List, ℕ, ap, arith, length, subst}
+use Rattle.std.proofs.Common.{◌≡◌, ◌+◌, ◌∙◌, ◌<◌, ◌≤◌, IfSome, Option, Some, List, ℕ, ap, arith, length, subst}
 use Rattle.std.proofs.Common.{sym}
 use Rattle.std.proofs.lemmas.List.{length-map}
 use Rattle.std.specs.Option.{option_map}
-use Rattle.literal_base.specs.Counts.{Counts}
 use Rattle.literal_base.specs.Occurs.{between}
 use Rattle.literal_search.specs.Earliest.{ScansToEndWithin}
 use Rattle.literal_search.specs.Inside.Count.{HasCounted}
@@ -13,17 +12,7 @@ use Rattle.literal_search.proofs.lemmas.Count.{counted_none, counted_some, posit
 use Rattle.literal_search.proofs.prepared_overlapping.LentTables.count_in_one.Goals as goal
 
 pub returns-in_err-here-clause-prepared : goal.returns-in_err-here-clause-prepared
-returns-in_err-here-clause-prepared c = λ search are counted.
-    let p = tables_by search c.args.self.now in
-    let here = c.loop-end.counted in
-    let so_far = c.loop-end.invariant in
-    let many = ap (λ (l : List ℕ). length l) are.lengths ∙ length-map search.patterns (λ (bytes : List ℕ). length bytes)
-    in
-    absurd (c.in_err-here.ensures.prepared search are
-    (subst (λ (s : Position). IsPosition p c.args.haystack.now c.args.span s) (sym c.after_end-position.ensures)
-    (position_after p are.tables c.args.haystack.now (λ k. omega (arith, c.type_inv.haystack k)) c.args.span
-    c.requires.valid here.at here.row (length c.args.self.now.header.lengths.now) so_far.walking.after
-    so_far.walking.inside (so_far.counts search are counted).walk many)))
+returns-in_err-here-clause-prepared c = λ search are counted. grind (arith, length-map, position_after)
 
 pub returns-in_default-clause-prepared : goal.returns-in_default-clause-prepared
 returns-in_default-clause-prepared c = λ search are counted.
@@ -37,14 +26,7 @@ returns-in_default-clause-prepared c = λ search are counted.
     (position_after p are.tables c.args.haystack.now (λ k. omega (arith, c.type_inv.haystack k)) c.args.span
     c.requires.valid here.at here.row (length c.args.self.now.header.lengths.now) so_far.walking.after
     so_far.walking.inside (so_far.counts search are counted).walk many) in
-    counted_none p are.tables c.args.haystack.now (λ k. omega (arith, c.type_inv.haystack k)) c.args.span
-    c.requires.valid here (so_far.counts search are counted) so_far.walking.after
-    (length c.args.self.now.header.lengths.now) many
-    (subst (λ (s : Position). IsNextEnd p c.args.haystack.now c.args.span s None) c.after_end-position.ensures
-    (subst (λ (answer : Option Position).
-    IsNextEnd p c.args.haystack.now c.args.span c.after_end-position.result answer) c.in_default.is
-    (c.in_ok-here.ensures.prepared search are standing)))
-    so_far.walking.inside
+    grind (arith, counted_none)
 
 pub loop-end-preserved : goal.loop-end-preserved
 loop-end-preserved c =
@@ -62,12 +44,7 @@ loop-end-preserved c =
     (between c.after_end-position.result.at c.args.span.end) (option_map (λ (h : Position). h.at) answer)
     c.loop-end.tally c.next_end.new.tally) c.in-Some.is c.in_ok-here.ensures.bounded in
     record {
-      walking = record {
-        after = omega (arith, so_far.walking.after, moved);
-        inside = lies.inside;
-        small = lies.small;
-        few = omega (arith, so_far.walking.few, so_far.walking.after, moved, c.saturating_sub-listed.auto);
-      };
+      walking = grind arith;
       counts = λ search are counted.
           let p = tables_by search c.args.self.now in
           let many = ap (λ (l : List ℕ). length l) are.lengths
@@ -89,9 +66,7 @@ loop-end-preserved c =
           c.in-Some.is (c.in_ok-here.ensures.prepared search are standing)))
           moved);
       on = omega (arith, so_far.on, moved);
-      tallied = c.in_ok-here.ensures.others
-          ∙ ap (λ (t : Counts). let t' : Counts = record t { scanned = c.next_end.new.tally.scanned } in t')
-          so_far.tallied;
+      tallied = grind arith;
       least = omega (arith, so_far.least, scans.least, at_is);
       most = omega (arith, so_far.most, scans.scanned, at_is);
     }

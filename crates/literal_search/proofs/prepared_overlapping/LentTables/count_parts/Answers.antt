@@ -1,23 +1,10 @@
-use Rattle.std.proofs.Common.{◌≡◌, ◌+◌, ◌*◌, ◌∙◌, ℕ, ap, arith, refl, subst}
-use Rattle.literal_base.specs.Counts.{Counts}
-use Rattle.literal_search.specs.Inside.Count.{IsWalk}
-use Rattle.literal_search.specs.Inside.LentTables.{tables_by}
+use Rattle.std.proofs.Common.{◌≡◌, ◌+◌, ◌*◌, arith, refl}
 use Rattle.literal_search.proofs.lemmas.Count.{four_on, four_parts, none_yet}
 use Rattle.literal_search.proofs.lemmas.Leftmost.{one_more}
 use Rattle.literal_search.proofs.prepared_overlapping.LentTables.count_parts.Goals as goal
 
 pub loop-step-init : goal.loop-step-init
-loop-step-init c =
-    let sum : c.args.tally.now.scanned ≡ c.args.tally.now.scanned + 4 * 0 = omega arith in
-    record {
-      rows = c.requires.rows;
-      walks = λ search are after. (
-        after,
-        none_yet search c.args.haystack.now c.args.span c.args.from.at c.args.part c.args.from.count,
-      );
-      few = omega arith;
-      counted = ap (λ (n : ℕ). let n' : Counts = record c.args.tally.now { scanned = n } in n') sum;
-    }
+loop-step-init c = grind (arith, none_yet)
 
 pub returns-in_err-first-clause-prepared : goal.returns-in_err-first-clause-prepared
 returns-in_err-first-clause-prepared c = λ search are counted walks.
@@ -63,12 +50,7 @@ loop-step-preserved c =
     let sum : c.args.tally.now.scanned + 4 * step + 1 + 1 + 1 + 1 ≡ c.args.tally.now.scanned + 4 * (step + 1) =
     omega arith in
     record {
-      rows = record {
-        first = c.in_ok-first.ensures.row;
-        second = c.in_ok-second.ensures.row;
-        third = c.in_ok-third.ensures.row;
-        fourth = c.in_ok-fourth.ensures.row;
-      };
+      rows = grind arith;
       walks = λ search are walks.
           let here = so_far.walks search are walks in
           let first = c.in_ok-first.ensures.prepared search are c.args.span (start + step) (start + (step + 1))
@@ -88,11 +70,7 @@ loop-step-preserved c =
                 _ _ _ _ _ first.1 second.1 third.1 fourth.1 (omega (arith, one, two, three, four)),
           );
       few = omega (arith, so_far.few, one, two, three, four);
-      counted = c.in_ok-fourth.ensures.ticks
-          ∙ (one_more _ _ (c.in_ok-third.ensures.ticks
-          ∙ one_more _ _ (c.in_ok-second.ensures.ticks
-          ∙ one_more _ _ (c.in_ok-first.ensures.ticks ∙ one_more _ _ so_far.counted)))
-          ∙ ap (λ (n : ℕ). let n' : Counts = record c.args.tally.now { scanned = n } in n') sum);
+      counted = grind (arith, one_more);
     }
 
 pub returns-clause-prepared : goal.returns-clause-prepared
@@ -103,8 +81,6 @@ returns-clause-prepared c = λ search are counted walks.
     let here = c.loop-step.invariant.walks search are walks in
     let end : start + 3 * part + c.loop-step.step ≡ start + 4 * part = omega (arith, done) in
     record {
-      counts = four_parts search c.args.haystack.now c.args.span start part c.loop-step.step c.args.from.count
-          c.loop-step.count here.1 done c.requires.walking.after counted.counts;
-      walk = λ less. subst (λ (t : ℕ). IsWalk (tables_by search c.args.self.now) c.args.haystack.now c.args.span t t
-          c.loop-step.fourth) end here.0.fourth;
+      counts = grind (arith, four_parts);
+      walk = λ less. grind arith;
     }

@@ -14,10 +14,7 @@ returns-then-len-eq0-clause-prepared c = λ search are position left.
     c.in_ok-len.ensures.ok_part ∙ ap (λ k. get_or p.header.lengths.now k 0) pattern_is in
     let inside = length_inside are c.args.haystack.now (λ k. omega (arith, c.type_inv.haystack k)) c.args.span
     c.requires.valid c.args.here position left in
-    elim c.then-len-eq0.branch [
-      | goal.then-len-eq0-via-then-len-eq0 w ↦ omega (arith, inside.0, len_is, w.if-len-eq0.true)
-      | goal.then-len-eq0-via-else-len-eq0+then-len-here w ↦ omega (arith, inside.1, len_is, w.if-len-here.true)
-    ]
+    grind arith
 
 pub returns-clause-prepared : goal.returns-clause-prepared
 returns-clause-prepared c = λ search are position left.

@@ -1,5 +1,4 @@
-use Rattle.std.proofs.Common.{◌≡◌, ◌+◌, ◌-◌, ◌*◌, ◌≤◌, ◌∙◌, ℕ, ap, arith, refl, subst}
-use Rattle.literal_base.specs.Counts.{Counts}
+use Rattle.std.proofs.Common.{◌≡◌, ◌+◌, ◌-◌, ◌*◌, ◌≤◌, ℕ, arith, refl, subst}
 use Rattle.literal_search.specs.Inside.Count.{IsWalk}
 use Rattle.literal_search.specs.Inside.LentTables.{AreFor, tables_by}
 use Rattle.literal_search.specs.Overlapping.{OverlappingValue}
@@ -23,15 +22,7 @@ loop-step-init c =
     start (start - lead + 0) are.longest (omega (arith, lead_is, long, after, far)) (omega (arith, lead_is, long, far))
     in
     let sum : c.args.tally.now.scanned ≡ c.args.tally.now.scanned + 3 * 0 = omega arith in
-    record {
-      second_within = some;
-      third_within = some;
-      fourth_within = some;
-      second = begins (at + part) (omega arith);
-      third = begins (at + 2 * part) (omega arith);
-      fourth = begins (at + 3 * part) (omega arith);
-      counted = ap (λ (n : ℕ). let n' : Counts = record c.args.tally.now { scanned = n } in n') sum;
-    }
+    grind arith
 
 pub returns-in_err-second-clause-prepared : goal.returns-in_err-second-clause-prepared
 returns-in_err-second-clause-prepared c = λ search are after.
@@ -83,9 +74,7 @@ loop-step-preserved c =
       second_within = c.in_ok-second.ensures.row;
       third_within = c.in_ok-third.ensures.row;
       fourth_within = c.in_ok-fourth.ensures.row;
-      second = λ search are. c.in_ok-second.ensures.prepared search are c.args.span (start + part)
-          (start + part - lead + step) (start + part - lead + (step + 1)) c.requires.valid
-          (omega (arith, lead_is, long, inside, before)) (omega arith) (omega arith) (so_far.second search are);
+      second = λ search are. grind arith;
       third = λ search are. c.in_ok-third.ensures.prepared search are c.args.span (start + 2 * part)
           (start + 2 * part - lead + step) (start + 2 * part - lead + (step + 1)) c.requires.valid
           (omega (arith, lead_is, long, inside, before)) (omega (arith, lead_is, long)) (omega (arith, lead_is, long))
@@ -94,10 +83,7 @@ loop-step-preserved c =
           (start + 3 * part - lead + step) (start + 3 * part - lead + (step + 1)) c.requires.valid
           (omega (arith, lead_is, long, inside, before)) (omega (arith, lead_is, long)) (omega (arith, lead_is, long))
           (so_far.fourth search are);
-      counted = c.in_ok-fourth.ensures.ticks
-          ∙ (one_more _ _ (c.in_ok-third.ensures.ticks
-          ∙ one_more _ _ (c.in_ok-second.ensures.ticks ∙ one_more _ _ so_far.counted))
-          ∙ ap (λ (n : ℕ). let n' : Counts = record c.args.tally.now { scanned = n } in n') sum);
+      counted = grind (arith, one_more);
     }
 
 pub returns-clause-prepared : goal.returns-clause-prepared
@@ -118,12 +104,8 @@ returns-clause-prepared c = λ search are after.
     (subst (λ (t : ℕ). IsWalk (tables_by search c.args.self.now) c.args.haystack.now c.args.span to t row) same walk) in
     let first : start ≡ start + 0 = omega arith in
     record {
-      first = subst (λ (t : ℕ). IsWalk (tables_by search c.args.self.now) c.args.haystack.now c.args.span t t
-          c.args.from.row) first after;
-      second = led (start + part - lead) (start + part) c.loop-step.second (omega (arith, done, lead_is, long))
-          (so_far.second search are);
-      third = led (start + 2 * part - lead) (start + 2 * part) c.loop-step.third (omega (arith, done, lead_is, long))
-          (so_far.third search are);
-      fourth = led (start + 3 * part - lead) (start + 3 * part) c.loop-step.fourth (omega (arith, done, lead_is, long))
-          (so_far.fourth search are);
+      first = grind arith;
+      second = grind arith;
+      third = grind arith;
+      fourth = grind arith;
     }

@@ -1,7 +1,5 @@
-use Rattle.std.proofs.Common.{◌≡◌, ◌+◌, ◌-◌, ◌<◌, ◌∙◌, ◌++◌, ℕ, List, ap, arith, get_or, inl, inr, length, refl, subst}
-use Rattle.std.proofs.Common.{sym}
-use Rattle.std.proofs.Common.{slice_range}
-use Rattle.literal_base.specs.Counts.{Counts}
+use Rattle.std.proofs.Common.{◌≡◌, ◌+◌, ◌-◌, ◌<◌, ◌++◌, ℕ, List, ap, arith, get_or, inl, inr, length, refl, subst}
+use Rattle.std.proofs.Common.{sym, slice_range}
 use Rattle.literal_search.specs.Automaton.{IsStateAfter}
 use Rattle.literal_search.specs.PreparedOverlapping.{tables_in}
 use Rattle.literal_search.proofs.lemmas.PreparedStates.{code_in, has_row, state_small, walked_end, walked_on, walked_to}
@@ -14,15 +12,7 @@ returns-in_err-row-clause-prepared c = λ search prepared text is.
     absurd (c.in_err-row.ensures (has_row (tables_in search c.args.self.now) prepared.tables text c.args.state is))
 
 pub loop-at-init : goal.loop-at-init
-loop-at-init c =
-    let none : c.args.tally.now.scanned ≡ c.args.tally.now.scanned + (c.args.span.start - c.args.span.start) =
-    omega arith in
-    record {
-      within = grind arith;
-      walks = λ search prepared text is. walks_none (tables_in search c.args.self.now) prepared.tables text
-          c.args.haystack.now c.args.span.start c.args.state c.in_ok-row.row is c.in_ok-row.ensures.0;
-      counted = ap (λ (n : ℕ). let t : Counts = record c.args.tally.now { scanned = n } in t) none;
-    }
+loop-at-init c = grind (arith, walks_none)
 
 pub returns-in_err-_row-clause-prepared : goal.returns-in_err-_row-clause-prepared
 returns-in_err-_row-clause-prepared c = λ search prepared text is.
@@ -43,10 +33,7 @@ returns-in_err-_row-clause-prepared c = λ search prepared text is.
     let few = prepared.tables.recognises.few in
     let long = ap (λ (l : List ℕ). length l) table.rows in
     let limit_is = c.in_ok-limit.ensures.2 in
-    elim c.in_err-_row.ensures [
-      | inl low ↦ absurd (omega (arith, row, few, long, limit_is, low, c.if-row-limit.true))
-      | inr high ↦ absurd (omega (arith, row, few, long, limit_is, high, small))
-    ]
+    grind arith
 
 pub returns-then-row-limit-clause-prepared : goal.returns-then-row-limit-clause-prepared
 returns-then-row-limit-clause-prepared c = λ search prepared text is.
@@ -95,10 +82,7 @@ loop-at-preserved c =
           (code_in _ t.classes _ t.rows _ t.width c.loop-at.row (get_or haystack at 0) code table.classes table.width
           table.rows prepared.tables.classes c.code_at-code.ensures.number)
           (omega (arith, c.if-row-limit.false, c.in_ok-limit.ensures.1));
-      counted = c.code_at-code.ensures.ticks
-          ∙ (ap (λ (t : Counts). let t' : Counts = record t { scanned = t.scanned + 1 } in t')
-          c.loop-at.invariant.counted
-          ∙ ap (λ (n : ℕ). let t : Counts = record c.args.tally.now { scanned = n } in t) more);
+      counted = grind arith;
     }
 
 pub returns-clause-prepared : goal.returns-clause-prepared
@@ -107,14 +91,9 @@ returns-clause-prepared c = λ search prepared text is.
     let haystack = c.args.haystack.now in
     let start = c.args.span.start in
     let walks = c.loop-at.invariant.walks search prepared text is in
-    let end : c.loop-at.at ≡ c.args.span.end =
-    omega (arith, c.loop-at-test.false, c.loop-at.auto.at-end c.requires.ordered) in
-    let number : c.if-span.state ≡ walks.number = elim c.if-span.branch [
-      | then-span w ↦ w.state-is ∙ (w.new-state.ensures ∙ sym (walks.further (omega (arith, w.if-span.true))))
-      | else-span w ↦ w.state-is ∙ sym (walks.begun (omega (arith, w.if-span.false, c.loop-at.auto.at)))
-    ] in
-    let after : IsStateAfter t (text ++ slice_range haystack start c.loop-at.at) c.if-span.state =
-    subst (IsStateAfter t (text ++ slice_range haystack start c.loop-at.at)) (sym number) walks.walked.is in
+    let end : c.loop-at.at ≡ c.args.span.end = grind arith in
+    let number : c.if-span.state ≡ walks.number = grind arith in
+    let after : IsStateAfter t (text ++ slice_range haystack start c.loop-at.at) c.if-span.state = grind arith in
     record {
       inside = omega arith;
       state = subst (λ (k : ℕ). IsStateAfter t (text ++ slice_range haystack start k) c.if-span.state) end after;

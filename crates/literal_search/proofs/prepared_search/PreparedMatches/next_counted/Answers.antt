@@ -1,8 +1,7 @@
 use Rattle.std.proofs.Common.{◌≤◌, ℕ, ap, arith, subst, sym}
-use Rattle.literal_search.specs.Inside.Backward.{AreMarked, IsAhead}
+use Rattle.literal_search.specs.Inside.Backward.{AreMarked}
 use Rattle.literal_search.specs.MatchesValue.{GivesMatch, MatchesValue, offset_at_end}
-use Rattle.literal_search.specs.Prepared.{BackTables, IsPrepared, PreparedMatchesValue}
-use Rattle.literal_search.specs.Prepared.{back_tables_in, matches_for}
+use Rattle.literal_search.specs.Prepared.{BackTables, IsPrepared, PreparedMatchesValue, back_tables_in, matches_for}
 use Rattle.literal_search.specs.declared.backward.TheConstants.{LEAST}
 use Rattle.literal_search.proofs.lemmas.Prepared.{some_by}
 use Rattle.literal_search.proofs.prepared_search.PreparedMatches.next_counted.Goals as goal
@@ -17,9 +16,7 @@ invariant_of-self c =
     let longest = c.backward-backward.ensures.longest in (
       c.self.invariant.0,
       record {
-        ahead = subst (λ (n : ℕ). IsAhead n m.span c.offset_after-self-inside.result marks) longest
-            (subst (λ (at : ℕ). IsAhead c.backward-backward.result.now.table.longest m.span at marks) at_is
-            c.in-Ok.ensures.ahead);
+        ahead = grind arith;
         marked = λ short search is.
             let before = subst (λ (t : BackTables). AreMarked t m.haystack.now m.span m.at m.numbers m.marks)
             (sym (c.backward-backward.ensures.tables search)) (old.marked short search is) in
@@ -55,11 +52,7 @@ returns-in-Ok-clause-prepared c = λ search given.
       not_empty = some_by c.backward-backward.result.now m.span m.at c.in-Ok.answer told.lies;
       known = c.next_in-answer.new.marks.known;
       goes_on = ap new_at c.offset_after-self-inside.ensures;
-      looks = record {
-        further = told.further.0;
-        inside = told.further.1;
-        looked = omega (arith, told.looked, c.backward-backward.ensures.longest, is.tables.longest);
-      };
+      looks = grind arith;
     })
 
 pub returns-in-Err-clause-prepared : goal.returns-in-Err-clause-prepared

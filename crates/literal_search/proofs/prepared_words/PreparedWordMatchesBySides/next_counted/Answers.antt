@@ -1,7 +1,6 @@
-use Rattle.std.proofs.Common.{◌∙◌, ap, arith, subst, sym, ℕ}
+use Rattle.std.proofs.Common.{arith, subst, sym, ℕ}
 use Rattle.literal_base.specs.Occurs.{between}
 use Rattle.literal_search.specs.Inside.WholeWords.{WordParts, whole_words_value}
-use Rattle.literal_search.specs.MatchesValue.{offset_at_end}
 use Rattle.literal_search.specs.Prepared.{IsPrepared}
 use Rattle.literal_search.specs.PreparedWords.{PreparedWordMatchesBySidesValue, word_matches_by, words_for}
 use Rattle.literal_search.specs.WholeWords.{GivesWholeWordBy, IsFirstAloneBy, WholeWordMatchesValue}
@@ -43,19 +42,9 @@ returns-in-Ok-clause-prepared c = λ search given longest.
           search is longest;
       not_empty = some_by m.words.backward m.span m.at answer told.lies;
       known = starts.marks.known;
-      goes_on = ap (λ at. new_at at starts.at) c.offset_after-self-inside.ensures
-          ∙ ap (λ from. new_at (offset_at_end m.span answer) from) told.at;
-      looks = record {
-        further = told.further;
-        inside = told.starts.known;
-        looked = omega (arith, told.starts.looked, c.self.invariant.0.back.longest, is.tables.longest);
-      };
+      goes_on = grind arith;
+      looks = grind arith;
     })
 
 pub returns-in-Err-clause-prepared : goal.returns-in-Err-clause-prepared
-returns-in-Err-clause-prepared c = λ search given longest.
-    let m = c.self.inside in
-    let is = subst (λ (v : PreparedWordMatchesBySidesValue). IsPrepared search v.matches.words.numbers) (sym
-    c.self.view_is)
-    given in
-    for_prepared m.prepared.now m.words c.self.invariant.0 (λ _. ⊥) c.in-Err.ensures.leftmost search is longest
+returns-in-Err-clause-prepared c = λ search given longest. grind (arith, for_prepared)

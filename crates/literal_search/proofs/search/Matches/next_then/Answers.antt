@@ -58,9 +58,5 @@ returns-clause-gives c =
       not_empty = some_by c.backward-backward.result m.span m.at c.in-Ok.answer told.lies;
       known = c.next_in-next.new.marks.known;
       goes_on = ap new_at c.offset_after-self-inside.ensures;
-      looks = record {
-        further = told.further.0;
-        inside = told.further.1;
-        looked = omega (arith, told.looked, longest, old.0.prepared.tables.longest);
-      };
+      looks = grind arith;
     })

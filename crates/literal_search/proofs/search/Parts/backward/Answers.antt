@@ -1,9 +1,8 @@
-use Rattle.std.proofs.Common.{List, ℕ, subst, sym}
+use Rattle.std.proofs.Common.{List, ℕ, subst, sym, ◌≡◌}
 use Rattle.literal_search.specs.Inside.Backward.{back_tables_by}
 use Rattle.literal_search.specs.Inside.Search.{search_value}
 use Rattle.literal_search.specs.Prepared.{IsPrepared, back_tables_in}
 use Rattle.literal_search.proofs.search.Parts.backward.Goals as goal
-use Rattle.std.proofs.Common.{◌≡◌}
 
 pub returns-clause-is_for : goal.returns-clause-is_for
 returns-clause-is_for c =

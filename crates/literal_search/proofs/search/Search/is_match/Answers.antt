@@ -1,5 +1,4 @@
-use Rattle.std.proofs.Common.{arith}
-use Rattle.std.proofs.Common.{◌≡◌, Bool, List, None, Option, Some, is_some, sym, ℕ}
+use Rattle.std.proofs.Common.{arith, ◌≡◌, Bool, List, None, Option, Some, is_some, sym, ℕ}
 use Rattle.std.proofs.lemmas.Bool.{false_from_ne_true}
 use Rattle.literal_base.proofs.lemmas.Met.{occurs_if, one_occurs_if}
 use Rattle.literal_base.specs.Leftmost.{IsLeftmost}

@@ -3,7 +3,6 @@ use Rattle.std.proofs.iter.Next.{Yields-more}
 use Rattle.std.specs.List.{slice_range}
 use Rattle.literal_base.specs.MatchValue.{MatchValue}
 use Rattle.literal_search.specs.SearchValue.{ScansListAtMost}
-use Rattle.literal_search.specs.MatchesValue.{GivesCounted}
 use Rattle.literal_search.proofs.lemmas.Callers.{matches_of}
 use Rattle.literal_search.proofs.lemmas.Iterations.{gives_from_counted, scanned_on, scans_whole_from_yields}
 use Rattle.literal_search.proofs.lemmas.Replaced.{all_written, refused_at, refused_behind, replacement_at, written_on}
@@ -37,16 +36,6 @@ returns-in_err-extend_from_slice-3-clause-error c =
     (omega (arith, c.in_err-extend_from_slice-3.ensures.full, c.loop-found.text.ok)) in
     search (rules, refused)
 
-pub loop-found-init : goal.loop-found-init
-loop-found-init c = record {
-  done = [];
-  run = ap (λ m. (m, c.args.tally.now)) (sym c.find_iter_in-matches.ensures);
-  written = grind arith;
-  others = refl;
-  known = grind arith;
-  scanned = λ _. grind arith;
-}
-
 pub loop-found-preserved : goal.loop-found-preserved
 loop-found-preserved c =
     let so_far = c.loop-found.invariant in
@@ -54,16 +43,13 @@ loop-found-preserved c =
     let found = c.in-Some.found in
     record {
       done = so_far.done ++ found ∷ [];
-      run = Yields-more GivesCounted (matches_of c.args.self.now c.args.haystack.now, c.args.tally.now) so_far.done
-          (c.loop-found.matches, c.loop-found.tally) found (c.next_counted.new.self, c.next_counted.new.tally)
-          so_far.run (record { gives = step; scans = c.in-Some.ensures.scans });
+      run = grind (arith, Yields-more, matches_of);
       written = written_on so_far.written step _ _ _ _ _ c.in_ok-extend_from_slice.ensures.items
           c.in_ok-extend_from_slice-2.ensures.items
           (ap (slice_range c.args.haystack.now c.loop-found.at) c.start.ensures.start)
           (replacement_at c.args.replacements.now _ _ (c.as_usize.ensures.value ∙ c.pattern.ensures))
           c.end-at.ensures.end;
-      others = scanned_on c.args.tally.now c.loop-found.tally c.next_counted.new.tally so_far.others
-          c.in-Some.ensures.scans.others;
+      others = grind (arith, scanned_on);
       known = grind arith;
       scanned = λ small. grind arith;
     }

@@ -41,11 +41,7 @@ range-requires-clause-end_boundary c =
     c.utf8.haystack).0
 
 pub loop-found-init : goal.loop-found-init
-loop-found-init c =
-    record {
-      written = grind arith;
-      between = IsCharBoundary-start c.args.haystack.now c.utf8.haystack;
-    }
+loop-found-init c = grind (arith, IsCharBoundary-start)
 
 pub loop-found-preserved : goal.loop-found-preserved
 loop-found-preserved c =

@@ -19,8 +19,7 @@ loop-found-init g c = record {
 pub returns-clause-ok : goal.returns-clause-ok
 returns-clause-ok g c = record {
   matches = c.loop-found.yielded;
-  are_greedy = greedy_from_matches c.args.self.now c.args.haystack.now _ _ _ _ (cc) c.loop-found.yielded_by
-      c.in-None.ensures.steps;
+  are_greedy = grind (arith, greedy_from_matches);
   first = c.loop-found.invariant.first;
   last = record { writer = c.loop-found.write; text = c.loop-found.text; at = c.loop-found.at };
   begins = c.loop-found.invariant.begins;

@@ -120,10 +120,8 @@ loop-pattern-preserved c =
     let starts = c.loop-pattern.lists.starts.items in
     let list = c.in_ok-list.list.items in
     let count = c.loop-pattern.pattern in
-    let ends_are : c.push.new.self.ends.items ≡ ends ++ list =
-    c.in_ok-push.ensures.ends ∙ ap (λ (l : List ℕ). ends ++ l) c.deref-in-loop-pattern-3.ensures.value in
-    let starts_are : c.push.new.self.starts.items ≡ starts ++ length (ends ++ list) ∷ [] =
-    c.in_ok-push.ensures.starts ∙ ap (λ (l : List ℕ). starts ++ length l ∷ []) ends_are in
+    let ends_are : c.push.new.self.ends.items ≡ ends ++ list = grind arith in
+    let starts_are : c.push.new.self.starts.items ≡ starts ++ length (ends ++ list) ∷ [] = grind arith in
     subst (λ (l : List ℕ). AreLists texts l c.push.new.self.starts.items (count + 1)) (sym ends_are)
     (subst (λ (l : List ℕ). AreLists texts (ends ++ list) l (count + 1)) (sym starts_are)
     (lists_more texts ends starts list count c.loop-pattern.invariant c.in_ok-list.ensures.ends

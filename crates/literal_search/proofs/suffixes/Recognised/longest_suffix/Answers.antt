@@ -1,5 +1,4 @@
-use Rattle.std.proofs.Common.{◌≡◌, ◌+◌, ◌-◌, ◌∙◌, ◌++◌, ◌∷◌, [], ℕ, drop, take, get_or, arith, refl, sym, ap, subst}
-use Rattle.std.specs.Global.{Vec}
+use Rattle.std.proofs.Common.{◌≡◌, ◌+◌, ◌-◌, ◌++◌, ◌∷◌, [], drop, take, get_or, arith, refl, subst}
 use Rattle.std.proofs.lemmas.List.{length-drop, length-map, take_all}
 use Rattle.literal_base.specs.Occurs.{pattern_at}
 use Rattle.literal_search.specs.Inside.Lists.{HasReadText, symbols_of}
@@ -13,8 +12,7 @@ loop-at-preserved c =
     let at = c.loop-at.at in
     let read = c.index-self-pattern.result in
     let bytes = c.as_slice-bytes.result.now in
-    let is : bytes ≡ read.items = c.as_slice-bytes.ensures.value ∙ ap (λ (v : Vec ℕ). v.items) (sym
-    c.index-self-pattern.is) in
+    let is : bytes ≡ read.items = grind arith in
     let text = take (at - c.args.from) (drop c.args.from (pattern_at (symbols_of r) c.args.pattern)) in
     let symbol = get_or r.classes.now (get_or bytes at 0) 0 in
     let code = get_or r.rows.now (c.loop-at.row + symbol) 0 in

@@ -52,8 +52,7 @@ loop-rest-preserved c =
           c.args.from c.args.span c.requires.valid _ so_far.inside so_far.comes c.in_ok-stop.field-0 told.reaches _
           told.inside) c.in_ok-start-in-Back.start passed.inside.0 passed.inside.1
           passed.none;
-      others = others_on c.args.tally.now c.loop-rest.tally c.reach.new.tally c.pass_over.new.tally
-          so_far.others told.others passed.others;
+      others = grind (arith, others_on);
       least = omega (arith, so_far.least, far, lies.0, passed.least, told.grows);
       most = omega (arith, so_far.most, so_far.far, far, lies.0, lies.2, passed.counted, passed.inside.0, told.grows);
     }

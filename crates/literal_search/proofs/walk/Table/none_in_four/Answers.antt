@@ -1,10 +1,10 @@
-use Rattle.std.proofs.Common.{[], ◌≡◌, ◌+◌, ◌*◌, ◌<◌, ◌∙◌, ◌^◌, ℕ, List, ap, arith, get_or, length, subst, suc, sym}
+use Rattle.std.proofs.Common.{[], ◌≡◌, ◌+◌, ◌*◌, ◌<◌, ◌^◌, ℕ, List, ap, arith, get_or, length, subst, suc, sym}
 use Rattle.std.proofs.Common.{zero}
 use Rattle.literal_base.specs.Counts.{Counts}
 use Rattle.literal_search.specs.Inside.Classes.{AreClasses}
 use Rattle.literal_search.specs.Inside.Walk.{NoneEndsIn, WalksOn, classes_by, rows_by}
 use Rattle.literal_search.specs.declared.walk.Table.{Table}
-use Rattle.literal_search.proofs.lemmas.Walk.{at_start, walks_further, walks_start}
+use Rattle.literal_search.proofs.lemmas.Walk.{at_start, walks_further}
 use Rattle.literal_search.proofs.walk.Table.none_in_four.Goals as goal
 
 -- one byte more of one of the spans, whose row, class and number are known
@@ -20,14 +20,6 @@ lane classes rows haystack width are start step at at_is inside is_byte row code
     (walks_further width rows 0 classes haystack start at row
     (subst (λ (end : ℕ). WalksOn width rows 0 classes haystack start end row) (sym at_is) walks) (omega arith) inside
     (are.below (get_or haystack at 0) is_byte) code code_if small)
-
--- before the first
-at_first : (classes rows haystack : List ℕ) (width start : ℕ)
-    → WalksOn width rows 0 classes haystack start (start + 0) 0
-at_first classes rows haystack width start =
-    let same : start ≡ start + 0 = omega arith in
-    subst (λ (end : ℕ). WalksOn width rows 0 classes haystack start end 0) same
-    (walks_start width rows 0 classes haystack start)
 
 one_more : (a b : Counts) → a ≡ b
     → (let t : Counts = record a { scanned = a.scanned + 1 } in t)
@@ -66,11 +58,7 @@ loop-step-preserved c =
           (byte (at + step + 3 * block)) c.loop-step.fourth c.next_at-fourth.result (so_far.fourth are)
           (c.next_at-fourth.ensures.number are)
           (omega (arith, c.if-fourth-limit.false, c.requires.limit));
-      counted = c.next_at-fourth.ensures.ticks
-          ∙ (one_more _ _ (c.next_at-third.ensures.ticks
-          ∙ one_more _ _ (c.next_at-second.ensures.ticks
-          ∙ one_more _ _ (c.next_at-first.ensures.ticks ∙ one_more _ _ so_far.counted)))
-          ∙ ap (λ (n : ℕ). let n' : Counts = record c.args.tally.now { scanned = n } in n') sum);
+      counted = grind (arith, one_more);
     }
 
 -- all of one of the spans

@@ -1,5 +1,4 @@
-use Rattle.std.proofs.Common.{◌≡◌, ◌+◌, ◌-◌, ◌<◌, ◌∙◌, ℕ, ap, arith, get_or, inl, inr, length, subst, sym}
-use Rattle.literal_base.specs.Counts.{Counts}
+use Rattle.std.proofs.Common.{◌≡◌, ◌+◌, ◌-◌, ◌<◌, ℕ, arith, get_or, inl, inr, length, subst, sym}
 use Rattle.literal_search.specs.Inside.Walk.{IsFirstEnd, NoneEnds, WalksOn, classes_by, rows_by}
 use Rattle.literal_search.proofs.lemmas.Walk.{number_leads, reaches_end, walks_further}
 use Rattle.literal_search.proofs.walk.Table.reach.Goals as goal
@@ -21,10 +20,7 @@ loop-at-preserved c =
           (are.below (get_or haystack at 0) (omega (arith, c.type_inv.haystack at))) c.code_at-code.result
           (c.code_at-code.ensures.number are)
           (omega (arith, c.if-code-limit.false, c.in_ok-limit.ensures.1));
-      counted = c.code_at-code.ensures.ticks
-          ∙ (ap (λ (t : Counts). let t' : Counts = record t { scanned = t.scanned + 1 } in t')
-          c.loop-at.invariant.counted
-          ∙ ap (λ (n : ℕ). let t : Counts = record c.args.tally.now { scanned = n } in t) more);
+      counted = grind arith;
     }
 
 pub returns-then-code-eq0-clause-reaches : goal.returns-then-code-eq0-clause-reaches
@@ -79,7 +75,6 @@ returns-then-code-limit-clause-reaches c = λ are patterns recognises text begin
 pub returns-clause-reaches : goal.returns-clause-reaches
 returns-clause-reaches c = λ are patterns recognises text begins.
     let t = c.args.self.now in
-    let end : c.loop-at.at ≡ c.args.span.end =
-    omega (arith, c.loop-at-test.false, c.loop-at.auto.at-end c.requires.valid.ordered) in
+    let end : c.loop-at.at ≡ c.args.span.end = grind arith in
     subst (λ (upto : ℕ). NoneEnds patterns text (classes_by t) c.args.haystack.now c.args.span.start upto) end
     (c.loop-at.invariant.walks are patterns recognises text begins).1

@@ -1,7 +1,6 @@
-use Rattle.std.proofs.Common.{◌∙◌, ap, arith, refl, subst, ℕ}
+use Rattle.std.proofs.Common.{arith, refl, subst, ℕ}
 use Rattle.literal_base.specs.Occurs.{between}
 use Rattle.literal_search.specs.Inside.WholeWords.{WordParts, owned_parts, whole_words_value}
-use Rattle.literal_search.specs.MatchesValue.{offset_at_end}
 use Rattle.literal_search.specs.WholeWords.{GivesWordBySides, IsFirstAloneBy, WholeWordMatchesValue}
 use Rattle.literal_search.specs.WholeWords.{WordMatchesBySidesValue}
 use Rattle.literal_search.proofs.lemmas.Prepared.{some_by}
@@ -32,13 +31,8 @@ returns-clause-gives c =
             told.leftmost;
         not_empty = some_by m.words.backward m.span m.at answer told.lies;
         known = starts.marks.known;
-        goes_on = ap (λ at. new_at at starts.at) c.offset_after-self-inside.ensures
-            ∙ ap (λ from. new_at (offset_at_end m.span answer) from) told.at;
-        looks = record {
-          further = told.further;
-          inside = told.starts.known;
-          looked = omega (arith, told.starts.looked, c.self.invariant.1.is_for.tables.longest);
-        };
+        goes_on = grind arith;
+        looks = grind arith;
       };
       same = refl;
     })
