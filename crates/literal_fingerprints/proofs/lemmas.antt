@@ -1,5 +1,6 @@
 pub mod Buckets
 pub mod Far
+pub mod Halves
 pub mod Hits
 pub mod Lanes
 pub mod Passing

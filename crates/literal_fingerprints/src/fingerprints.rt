@@ -6,13 +6,15 @@ ghost use Rattle.literal_fingerprints.specs.FingerprintsValue.{AllPass, Fingerpr
 ghost use Rattle.literal_fingerprints.specs.FingerprintsValue.{NoneBegins, fingerprints_in};
 ghost use Rattle.literal_fingerprints.specs.Inside.Lanes.{HasLanes};
 ghost use Rattle.literal_fingerprints.specs.Inside.Nibbles.{halves_of};
-ghost use Rattle.literal_fingerprints.specs.Inside.Scan.{HasPassed, IsLookedUp, NoneShared};
+ghost use Rattle.literal_fingerprints.specs.Inside.Scan.{AreTables, HasPassed, IsLookedUp, NoneShared, fingerprints_of};
 
 mod far;
 
+use self::far::next_far;
+use crate::both_nibbles::{halves_in, joined_halves};
 use crate::buckets::{Buckets, LOOKED_AT};
-use crate::lanes::{LANES, load, load_rest, look_up, zeros_before};
-use crate::looked_up::LookedUp;
+use crate::lanes::{LANES, first_set, load, load_rest, zeros_before};
+use crate::looked_up::{LookedUp, Tables};
 use crate::nibbles::{HALVES, Nibbles};
 use crate::wide::WIDE;
 use literal_base::Span;
@@ -189,22 +191,15 @@ impl Fingerprints {
         } else {
             span.start + NEAR
         };
-        let before = LookedUp::before_span();
-        let passed = self.pass(before, haystack, span.start, near, span, tally);
+        let (tables, before) = (self.tables(), LookedUp::before_span());
+        let passed = self.pass(tables, before, haystack, span.start, near, span, tally);
         if passed.stop < passed.at {
             return passed.stop - (LOOKED_AT - 1);
         }
         if is_short {
-            return self.rest(passed.before, haystack, passed.at, span, tally);
+            return self.rest(tables, passed.before, haystack, passed.at, span, tally);
         }
-        // The tables are copied: with a reference to them, the compiler keeps them in memory.
-        let tables = Fingerprints {
-            first: self.first,
-            second: self.second,
-            third: self.third,
-            fourth: self.fourth,
-        };
-        tables.next_far(passed.bytes, haystack, passed.at, span, tally)
+        next_far(tables, passed.bytes, haystack, passed.at, span, tally)
     }
 
     /// Looks up 16 bytes at a time from an offset on, while there are 16 before another one, or until a pattern may
@@ -212,6 +207,7 @@ impl Fingerprints {
     #[inline(always)]
     fn pass(
         &self,
+        tables: Tables,
         before: LookedUp,
         haystack: &[u8],
         from: usize,
@@ -223,6 +219,7 @@ impl Fingerprints {
         requires after { span.start ≤ from }
         requires ordered { from ≤ upto }
         requires inside { upto ≤ span.end }
+        requires tables { AreTables tables self.now }
         requires looked { IsLookedUp before self.now (take span.end haystack.now) span.start from }
         requires none { NoneShared self.now (take span.end haystack.now) span.start from }
         ensures passed { HasPassed result self.now (take span.end haystack.now) span.start }
@@ -238,9 +235,8 @@ impl Fingerprints {
         let (mut before, mut last, mut at) = (before, u8x16::splat(0), from);
         while LANES <= upto - at {
             let bytes = load(haystack, at, tally);
-            let here = self.look_up(bytes);
-            let passed = zeros_before(here.shared_after(before));
-            if passed < LANES {
+            let here = tables.look_up(bytes);
+            if let Some(passed) = first_set(here.shared_after(before)) {
                 return Passed {
                     at: at + LANES,
                     stop: at + passed,
@@ -263,6 +259,7 @@ impl Fingerprints {
     #[inline(always)]
     fn rest(
         &self,
+        tables: Tables,
         before: LookedUp,
         haystack: &[u8],
         from: usize,
@@ -273,6 +270,7 @@ impl Fingerprints {
         requires after { span.start ≤ from }
         requires inside { from ≤ span.end }
         requires few { span.end < from + 16 }
+        requires tables { AreTables tables self.now }
         requires looked { IsLookedUp before self.now (take span.end haystack.now) span.start from }
         requires none { NoneShared self.now (take span.end haystack.now) span.start from }
         ensures inside { (span.start ≤ result) × (result ≤ span.end) }
@@ -281,7 +279,7 @@ impl Fingerprints {
         ensures far { from ≤ result + 3 }
         ensures ticks { tally.new ≡ record tally.old { scanned = tally.old.scanned + (span.end - from) } }
     {
-        let here = self.look_up(load_rest(haystack, from, span.end, tally));
+        let here = tables.look_up(load_rest(haystack, from, span.end, tally));
         let passed = zeros_before(here.shared_after(before));
         (from + passed)
             .saturating_sub(LOOKED_AT - 1)
@@ -289,17 +287,30 @@ impl Fingerprints {
             .min(span.end)
     }
 
-    /// The buckets of 16 bytes of a haystack.
+    /// The fingerprints in such vectors.
     #[inline(always)]
-    fn look_up(&self, bytes: u8x16) -> LookedUp
-        ensures { (haystack : List ℕ) (start at : ℕ) → start ≤ at → HasLanes bytes (λ k. slice_index haystack (at + k))
-            → IsLookedUp result self.now haystack start (at + 16) }
+    fn of_tables(tables: Tables) -> Fingerprints
+        ensures { result ≡ fingerprints_of tables }
     {
-        LookedUp {
-            first: look_up(&self.first, bytes),
-            second: look_up(&self.second, bytes),
-            third: look_up(&self.third, bytes),
-            fourth: look_up(&self.fourth, bytes),
+        Fingerprints {
+            first: halves_in(tables.first),
+            second: halves_in(tables.second),
+            third: halves_in(tables.third),
+            fourth: halves_in(tables.fourth),
+        }
+    }
+
+    /// The tables, each as one vector.
+    #[inline(always)]
+    fn tables(&self) -> Tables
+        ensures tables { AreTables result self.now }
+        ensures whole { fingerprints_of result ≡ self.now }
+    {
+        Tables {
+            first: joined_halves(self.first),
+            second: joined_halves(self.second),
+            third: joined_halves(self.third),
+            fourth: joined_halves(self.fourth),
         }
     }
 }

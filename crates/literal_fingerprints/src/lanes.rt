@@ -1,12 +1,9 @@
 //! Vectors of 16 bytes, lane by lane.
-ghost use Rattle.std.specs.Prelude.{◌≡◌, ◌≢◌, ℕ, ◌+◌, ◌-◌, ◌/◌, ◌%◌, ◌<◌, ◌≤◌, length, slice_index, bit_and};
-ghost use Rattle.std.specs.Prelude.{take};
-ghost use Rattle.literal_fingerprints.specs.FingerprintsValue.{buckets_of};
-ghost use Rattle.literal_fingerprints.specs.Inside.Nibbles.{half_table};
+ghost use Rattle.std.specs.Prelude.{◌≡◌, ◌≢◌, ℕ, ◌+◌, ◌-◌, ◌<◌, ◌≤◌, length, slice_index, bit_and};
+ghost use Rattle.std.specs.Prelude.{IfSome, IsNone, take};
 ghost use Rattle.literal_fingerprints.specs.Inside.Hits.{hit};
 ghost use Rattle.literal_fingerprints.specs.Inside.Lanes.{HasLanes};
 
-use crate::nibbles::Nibbles;
 use literal_base::count::Tally;
 use std::simd::prelude::*;
 
@@ -70,30 +67,6 @@ pub fn wanted(bytes: u8x16, rare: u8, mask: u8) -> u8x16
     (bytes | u8x16::splat(mask))
         .simd_eq(u8x16::splat(rare))
         .select(u8x16::splat(255), u8x16::splat(0))
-}
-
-/// The entry of a table at the low nibble of each byte.
-#[inline(always)]
-fn by_low(table: &[u8; 16], bytes: u8x16) -> u8x16
-    ensures { HasLanes result (λ k. slice_index table.now (slice_index bytes k % 16)) }
-{
-    u8x16::from_slice(table).swizzle_dyn(bytes & u8x16::splat(15))
-}
-
-/// The entry of a table at the high nibble of each byte.
-#[inline(always)]
-fn by_high(table: &[u8; 16], bytes: u8x16) -> u8x16
-    ensures { HasLanes result (λ k. slice_index table.now (slice_index bytes k / 16 % 16)) }
-{
-    u8x16::from_slice(table).swizzle_dyn(bytes >> u8x16::splat(4))
-}
-
-/// The buckets of each byte.
-#[inline(always)]
-pub fn look_up(nibbles: &Nibbles, bytes: u8x16) -> u8x16
-    ensures { HasLanes result (λ k. buckets_of (half_table nibbles.now) (slice_index bytes k)) }
-{
-    both(by_low(&nibbles.low, bytes), by_high(&nibbles.high, bytes))
 }
 
 /// The last lane of one vector, and all but the last of the next.
@@ -163,4 +136,20 @@ pub fn zeros_before(lanes: u8x16) -> usize
     } else {
         set.trailing_zeros() as usize
     }
+}
+
+/// The first lane that is not 0.
+#[inline(always)]
+pub fn first_set(lanes: u8x16) -> Option<usize>
+    ensures none { IsNone result → (k : ℕ) → k < 16 → slice_index lanes k ≡ 0 }
+    ensures few { IfSome result (λ n. n < 16) }
+    ensures zero { IfSome result (λ n. (k : ℕ) → k < n → slice_index lanes k ≡ 0) }
+    ensures stops { IfSome result (λ n. slice_index lanes n ≢ 0) }
+{
+    let set = lanes.simd_ne(u8x16::splat(0)).to_bitmask();
+    if set == 0 {
+        return None;
+    }
+    let first = set.trailing_zeros() as usize;
+    if first < LANES { Some(first) } else { None }
 }

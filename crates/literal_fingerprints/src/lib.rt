@@ -2,6 +2,7 @@
 //! fingerprints of several patterns, or by two or three rare bytes of one.
 #![tactic(auto)]
 
+mod both_nibbles;
 mod buckets;
 mod candidates;
 mod fingerprints;

@@ -41,6 +41,7 @@ pub mod RewrittenBy
 pub mod Reversed
 pub mod Rows
 pub mod Scan
+pub mod ScanIn
 pub mod ScanNumbers
 pub mod Shadowed
 pub mod Sought

@@ -13,7 +13,7 @@ ghost use Rattle.literal_search.specs.Inside.Leftmost.{IsFirstStart, IsFourParts
 ghost use Rattle.literal_search.specs.Inside.Leftmost.{AreLaneStates, IsLane};
 ghost use Rattle.literal_search.specs.Inside.Leftmost.{IsLimit, IsPaid, IsPart, IsProgress, IsStep};
 ghost use Rattle.literal_search.specs.Inside.Leftmost.{LiesInPart, ReadsFor};
-ghost use Rattle.literal_search.specs.Inside.Leftmost.{AreFor, ahead_by, owed_by};
+ghost use Rattle.literal_search.specs.Inside.Leftmost.{AreFor, HasProgress, ahead_by, owed_by, owed_in};
 
 use crate::backward::{Backward, PatternStart};
 use crate::prepared::{Damaged, scan_in};
@@ -729,39 +729,36 @@ impl<'t> Backward<'t> {
         Ok(StepResult { first, progress })
     }
 
-    /// The first offset in a span at which a pattern begins. A scan for candidates passes over bytes. At a candidate,
-    /// one walk looks at this offset if the scan passed over enough; otherwise four walks go backward through a block.
-    /// Each block is twice as long as the previous one, up to a limit.
-    pub(crate) fn first_begun(
+    /// The first offset in a span at which a pattern begins, after a first scan has passed over bytes. It is not
+    /// inlined, so that the first scan has registers for its tables.
+    #[inline(never)]
+    pub(crate) fn first_after(
         &self,
         haystack: &[u8],
         span: Span,
+        from: Progress,
         tally: &mut Tally,
     ) -> Result<Option<PatternStart>, Damaged>
         requires safe { IsSafe self.now }
         requires valid { IsValidSpan haystack.now span }
-        ensures first { ForBackward self.now (λ tables. IsOkAnd result
-            (IsFirstStart tables haystack.now span.end span)) }
+        requires inside { from.at < span.end }
+        requires progress { HasProgress self.now span (owed_in self.now.prints.now) tally.old.scanned from }
+        ensures first { ForBackward self.now (λ tables. NoneFrom tables haystack.now span.end span.start from.at
+            → IsOkAnd result (IsFirstStart tables haystack.now span.end span)) }
         ensures lies { IfOk result (LiesInPart span.start span.end) }
         ensures others { tally.new ≡ record tally.old { scanned = tally.new.scanned } }
-        ensures most { tally.new.scanned ≤ tally.old.scanned + 3 * (span.end - span.start) }
-        ensures counted { IfOk result
-            (ReadsFor self.now.table.longest span tally.old.scanned tally.new.scanned) }
+        ensures most { (base : ℕ)
+            → IsProgress self.now span (owed_in self.now.prints.now) base tally.old.scanned from
+            → tally.new.scanned + 3 * span.start ≤ base + 3 * span.end }
+        ensures counted { (base : ℕ)
+            → IsProgress self.now span (owed_in self.now.prints.now) base tally.old.scanned from
+            → IfOk result (ReadsFor self.now.table.longest span base tally.new.scanned) }
     {
         let scan = &scan_in(self.prints);
         let owed = owed_by(scan);
-        let begin = Progress {
-            at: span.start,
-            credit: 0,
-            part: FIRST.max(self.table.longest / 2 + 3), // (so a lead is shorter than two parts)
-        };
-        let progress = self.pass_on(scan, haystack, span, begin, tally);
-        if progress.at == span.end {
-            return Ok(None);
-        }
         let (limit, bytes) = (self.table.limit()?, self.table.class_bytes());
         let classes = &bytes;
-        let near = self.look_first(scan, classes, haystack, span, progress, limit, tally)?;
+        let near = self.look_first(scan, classes, haystack, span, from, limit, tally)?;
         if let Some(begun) = near.first {
             return Ok(Some(begun));
         }

@@ -13,10 +13,10 @@ ghost use Rattle.literal_search.specs.Inside.Leftmost.{ReadsFor, owed_by};
 ghost use Rattle.literal_search.specs.Inside.Near.{IsFirstLook, IsGap, IsPiece, ReadsFirstLook};
 ghost use Rattle.literal_search.specs.SearchValue.{LooksFor};
 
-use crate::backward::Backward;
+use crate::backward::{Backward, PatternStart};
 use crate::classes::CLASSES_LEN;
 use crate::leftmost::{FIRST, PRICE, Progress, StepResult};
-use crate::prepared::Damaged;
+use crate::prepared::{Damaged, scan_in};
 use crate::walk::class_by;
 use literal_base::count::Tally;
 use literal_base::{Match, Span};
@@ -310,7 +310,40 @@ impl<'t> Backward<'t> {
         })
     }
 
+    /// The first offset in a span at which a pattern begins. A scan for candidates passes over bytes. At a candidate,
+    /// one walk looks at this offset if the scan passed over enough; otherwise four walks go backward through a block.
+    /// Each block is twice as long as the previous one, up to a limit.
+    pub(crate) fn first_begun(
+        &self,
+        haystack: &[u8],
+        span: Span,
+        tally: &mut Tally,
+    ) -> Result<Option<PatternStart>, Damaged>
+        requires safe { IsSafe self.now }
+        requires valid { IsValidSpan haystack.now span }
+        ensures first { ForBackward self.now (λ tables. IsOkAnd result
+            (IsFirstStart tables haystack.now span.end span)) }
+        ensures lies { IfOk result (LiesInPart span.start span.end) }
+        ensures others { tally.new ≡ record tally.old { scanned = tally.new.scanned } }
+        ensures most { tally.new.scanned ≤ tally.old.scanned + 3 * (span.end - span.start) }
+        ensures counted { IfOk result
+            (ReadsFor self.now.table.longest span tally.old.scanned tally.new.scanned) }
+    {
+        let scan = &scan_in(self.prints);
+        let begin = Progress {
+            at: span.start,
+            credit: 0,
+            part: FIRST.max(self.table.longest / 2 + 3), // (so a lead is shorter than two parts)
+        };
+        let progress = self.pass_on(scan, haystack, span, begin, tally);
+        if progress.at == span.end {
+            return Ok(None);
+        }
+        self.first_after(haystack, span, progress, tally)
+    }
+
     /// The leftmost match of a span.
+    #[inline(always)]
     pub fn find_in(
         &self,
         haystack: &[u8],

@@ -2,13 +2,12 @@
 use Rattle.std.proofs.Common.{◌≡◌, ◌≢◌, ℕ, ◌+◌, ◌-◌, ◌<◌, ◌≤◌, ◌∙◌, List, ap, arith, bit_and, get_or, inl, inr}
 use Rattle.std.proofs.Common.{sym}
 use Rattle.std.proofs.lemmas.Bool.{cases_lt}
-use Rattle.std.proofs.lemmas.Nat.{and_assoc, and_comm}
 use Rattle.std.specs.Int.Bits.{and_zero_l}
 use Rattle.literal_fingerprints.specs.FingerprintsValue.{FingerprintsValue, PassesAt, shared_buckets}
 use Rattle.literal_fingerprints.specs.Inside.Lanes.{HasBack, HasLanes, HasWide}
 use Rattle.literal_fingerprints.specs.Inside.Scan.{NoneShared, high_of, low_of, shared_highs, shared_lows}
 use Rattle.literal_fingerprints.proofs.lemmas.Scan.{same_shared}
-use Rattle.literal_fingerprints.proofs.lemmas.Sets.{meets}
+use Rattle.literal_fingerprints.proofs.lemmas.Sets.{crossed, meets}
 
 pub lanes_of_half : (lanes half : List ℕ) (f : ℕ → ℕ) → HasBack lanes f → HasLanes half (λ k. get_or lanes (16 + k) 0)
     → HasLanes half f
@@ -57,13 +56,6 @@ module _ (haystack : List ℕ) (at : ℕ) where
 
     pub passes_far : (n : ℕ) → shared_buckets f (λ j. text (13 + n + j)) ≢ 0 → PassesAt f haystack (at + n - 3)
     passes_far n some none = some (shared_at (at + n - 3) n (omega arith) ∙ none)
-
--- sets of two and two, in another order
-crossed : (a b c d : ℕ) → bit_and (bit_and a b) (bit_and c d) ≡ bit_and (bit_and a c) (bit_and b d)
-crossed a b c d =
-    and_assoc (bit_and c d) a b
-    ∙ (ap (bit_and a) (sym (and_assoc d b c) ∙ (ap (λ x. bit_and x d) (and_comm b c) ∙ and_assoc d c b))
-    ∙ sym (and_assoc (bit_and b d) a c))
 
 -- four bytes share the buckets that they share by both halves
 pub by_halves : (f : FingerprintsValue) (text : ℕ → ℕ)

@@ -183,29 +183,6 @@ pub lanes_from : {w : ℕ} → (lanes : List ℕ) (f : ℕ → ℕ) (m n : ℕ) 
     → AreLanes w lanes (λ k. f (n + k))
 lanes_from {w} lanes f m n same has = subst (λ j. AreLanes w lanes (λ k. f (j + k))) same has
 
-module _ (js : List ℕ) (f : ℕ → ℕ) (lanes : HasLanes js f) (small : (k : ℕ) → k < 16 → f k < 16) where
-  -- positions in a table of 16
-  pub positions_fit : SwzOk w8 16 16 0 js
-  positions_fit =
-      let long = lanes.long in
-      SwzOk-from_below w8 16 1 16 0 js refl (omega arith)
-      (Each1-from_get_or (λ j. j < 16) js 0
-      (λ k l. let below : k < 16 = omega arith in omega (arith, lanes.each k below, small k below)))
-
-  -- the entries there
-  pub lanes_of_positions : (table : List ℕ) → HasLanes (swz_l w8 16 (take 16 table) 0 js) (λ k. get_or table (f k) 0)
-  lanes_of_positions table =
-      let long = lanes.long in
-      record {
-        long = length-swz_l w8 16 (take 16 table) 0 js ∙ long;
-        each = λ k below.
-            let is = lanes.each k below in
-            let least = small k below in
-            let place : 16 * ((0 + k) / 16) + get_or js k 0 ≡ f k = omega arith in
-            get_or-swz_l_below w8 16 (take 16 table) 0 js k (omega arith) (omega arith)
-            ∙ (ap (λ j. get_or (take 16 table) j 0) place ∙ get_or-take 16 table (f k) 0 least);
-      }
-
 module _ (js : List ℕ) (f : ℕ → ℕ) (lanes : HasWide js f) (small : (k : ℕ) → k < 32 → f k < 16) where
   -- positions in each half of a vector of 32
   pub wide_positions_fit : SwzOk w8 16 32 0 js

@@ -52,3 +52,10 @@ same_once_set a b = same_from_bits _ _ (λ i. omega (
   bit_at-lt a i,
   bit_at-lt b i,
 ))
+
+-- sets of two and two, in another order
+pub crossed : (a b c d : ℕ) → bit_and (bit_and a b) (bit_and c d) ≡ bit_and (bit_and a c) (bit_and b d)
+crossed a b c d =
+    and_assoc (bit_and c d) a b
+    ∙ (ap (bit_and a) (sym (and_assoc d b c) ∙ (ap (λ x. bit_and x d) (and_comm b c) ∙ and_assoc d c b))
+    ∙ sym (and_assoc (bit_and b d) a c))

@@ -18,3 +18,9 @@ HasWide lanes value = AreLanes 32 lanes value
 pub record HasBack (lanes : List ℕ) (value : ℕ → ℕ) : Type 0 where
   pub long : length lanes ≡ 32
   pub each : (k : ℕ) → k < 16 → slice_index lanes (16 + k) ≡ value k
+
+-- a vector has 32 lanes, the first 16 and the last 16 of them with these values
+pub record HasHalves (lanes : List ℕ) (one other : ℕ → ℕ) : Type 0 where
+  pub long : length lanes ≡ 32
+  pub front : (k : ℕ) → k < 16 → slice_index lanes k ≡ one k
+  pub back : (k : ℕ) → k < 16 → slice_index lanes (16 + k) ≡ other k

@@ -1,6 +1,6 @@
 -- The leftmost match of a span, by backward walks.
 use Rattle.std.specs.Prelude.{◌≡◌, ◌⊎◌, ℕ, ◌+◌, ◌*◌, ◌<◌, ◌≤◌, ◌^◌, ◌%◌, List, None, Option, Some, length, min}
-use Rattle.std.specs.Prelude.{◌-◌, IfSome}
+use Rattle.std.specs.Prelude.{◌-◌, ◌==◌, IfSome, if◌then◌else◌}
 use Rattle.literal_base.specs.Counts.{Counts}
 use Rattle.literal_base.specs.Occurs.{between}
 use Rattle.literal_base.specs.declared.search.Span.{Span}
@@ -9,7 +9,7 @@ use Rattle.literal_fingerprints.specs.declared.candidates.CandidateScan.{Candida
 use Rattle.literal_search.specs.SearchValue.{first_part}
 use Rattle.literal_search.specs.Inside.Backward.{AreMarks, ForBackward, HasReadBack, IsMark, NoneFrom}
 use Rattle.literal_search.specs.Inside.Walk.{classes_by, rows_by}
-use Rattle.literal_search.specs.Prepared.{BackTables}
+use Rattle.literal_search.specs.Prepared.{BackTables, past_skipped}
 use Rattle.literal_search.specs.declared.backward.Backward.{Backward}
 use Rattle.literal_search.specs.declared.backward.PatternStart.{PatternStart}
 use Rattle.literal_search.specs.declared.leftmost.Block.{Block}
@@ -136,6 +136,10 @@ abbrev pub owed_by : Option CandidateScan → ℕ
 owed_by None = 0
 owed_by (Some scan) = OVERLAP
 
+-- the same for the scan that these numbers describe
+abbrev pub owed_in : List ℕ → ℕ
+owed_in prints = if past_skipped prints == 0 then 0 else OVERLAP
+
 -- the most bytes that a scan reads after the offset at which it stops
 abbrev pub ahead_by : Option CandidateScan → ℕ
 ahead_by None = 0
@@ -164,3 +168,7 @@ pub record IsProgress (b : Backward) (span : Span) (owed old new : ℕ) (f : Pro
   pub near : f.at < span.end → 4 * f.part + span.start ≤ f.at + 4 * first_part b.table.longest
   pub least : old + f.at ≤ new + span.start
   pub most : new + 2 * f.credit + 3 * span.start ≤ old + 3 * f.at + min owed (span.end - f.at)
+
+-- the progress of a search that began at some count
+abbrev pub HasProgress : Backward → Span → ℕ → ℕ → Progress → Type 0
+HasProgress b span owed new f = (old : ℕ) × IsProgress b span owed old new f

@@ -11,7 +11,7 @@ returns-clause-passed c =
     let start = c.args.span.start in
     let cut = take c.args.span.end c.args.haystack.now in
     let from = c.args.from in
-    let here = c.look_up-here.ensures cut start from c.requires.after c.load_rest.ensures.lanes in
+    let here = c.look_up-here.ensures f cut start from c.requires.tables c.requires.after c.load_rest.ensures.lanes in
     let lanes = c.shared_after.ensures f cut start from c.requires.looked here in
     none_begins f c.args.haystack.now c.args.span c.requires.valid _ (λ k after below.
     passed_more cut start f from _ c.requires.none
@@ -27,7 +27,7 @@ returns-clause-stops c =
     let cut = take end c.args.haystack.now in
     let from = c.args.from in
     let passed = c.zeros_before-passed.result in
-    let here = c.look_up-here.ensures cut start from c.requires.after c.load_rest.ensures.lanes in
+    let here = c.look_up-here.ensures f cut start from c.requires.tables c.requires.after c.load_rest.ensures.lanes in
     let lanes = c.shared_after.ensures f cut start from c.requires.looked here in
     elim (cases_lt passed 16) [
       | inl some ↦
