@@ -1,6 +1,6 @@
 -- A walk through rows that recognise patterns.
 use Rattle.std.proofs.Common.{◌≡◌, ℕ, ◌+◌, ◌*◌, ◌-◌, ◌<◌, ◌≤◌, ◌^◌, List, [], ◌∷◌, ◌++◌, length, get_or}
-use Rattle.std.proofs.Common.{Option, Some, None, inl, inr, ◌⊎◌, take, drop, append-nil}
+use Rattle.std.proofs.Common.{Option, Some, None, inl, inr, ◌⊎◌, take, drop}
 use Rattle.std.proofs.Common.{append_assoc, refl, sym, ap, subst, ◌∙◌, arith}
 use Rattle.std.proofs.lemmas.Bool.{cases_lt}
 use Rattle.std.proofs.lemmas.List.{drop-drop, drop-take, get_or-drop, length-drop, length-map, length-take, map-append}
@@ -152,17 +152,11 @@ module _ (width : ℕ) (rows : List ℕ) (from : ℕ) (classes haystack : List �
       ≡ read_to text classes haystack start at ++ get_or classes (get_or haystack at 0) 0 ∷ []
   read_push text at after inside = grind (arith, append_assoc, text_push)
 
-  read_nothing : (text : List ℕ) → read_to text classes haystack start start ≡ text
-  read_nothing text = grind (arith, append-nil)
-
   none_push : (patterns : List (List ℕ)) (text : List ℕ) (at : ℕ)
       → NoneEnds patterns text classes haystack start at
       → ending patterns (read_to text classes haystack start (at + 1)) ≡ None
       → NoneEnds patterns text classes haystack start (at + 1)
   none_push patterns text at none here end after upto = grind (arith, cases_lt)
-
-  pub walks_start : WalksOn width rows from classes haystack start start from
-  walks_start patterns recognises text at = grind (arith, read_nothing)
 
   module _ (at row : ℕ) (walks : WalksOn width rows from classes haystack start at row) (after : start ≤ at)
       (inside : at < length haystack) (below : get_or classes (get_or haystack at 0) 0 < width) (code : ℕ)
