@@ -21,7 +21,6 @@ pub mod Prepared
 pub mod Rewriting
 pub mod Rows
 pub mod Scan
-pub mod Short
 pub mod Position
 pub mod Stream
 pub mod Walk

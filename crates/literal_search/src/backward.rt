@@ -739,7 +739,7 @@ fn unmarked_from(numbers: &[u32], at: usize) -> usize
 }
 
 /// Nothing was found, and nothing begins before an offset.
-pub(crate) fn nothing_before(at: usize) -> Looked
+fn nothing_before(at: usize) -> Looked
     ensures { result ≡ record { found = None; at = at } }
 {
     Looked { found: None, at }

@@ -343,7 +343,6 @@ impl<'t> Backward<'t> {
     }
 
     /// The leftmost match of a span.
-    #[inline(always)]
     pub fn find_in(
         &self,
         haystack: &[u8],
@@ -363,31 +362,6 @@ impl<'t> Backward<'t> {
         if span.start == span.end {
             return Ok(None);
         }
-        match self.short() {
-            Some(short) => self.find_short(&short, haystack, span, tally),
-            None => self.find_by_walks(haystack, span, tally),
-        }
-    }
-
-    /// The same by walks, in a span that is not empty.
-    #[inline(never)]
-    fn find_by_walks(
-        &self,
-        haystack: &[u8],
-        span: Span,
-        tally: &mut Tally,
-    ) -> Result<Option<Match>, Damaged>
-        requires safe { IsSafe self.now }
-        requires valid { IsValidSpan haystack.now span }
-        requires some { span.start < span.end }
-        ensures leftmost { ForBackward self.now (λ tables. IsOkAnd result
-            (IsLeftmost tables.search.query tables.search.ignore_case haystack.now span)) }
-        ensures lies { IfOk result (λ answer. IfSome answer (IsMatchBy self.now span span.start)) }
-        ensures others { tally.new ≡ record tally.old { scanned = tally.new.scanned } }
-        ensures most { tally.new.scanned ≤ tally.old.scanned + 3 * (span.end - span.start) }
-        ensures counted { IfOk result (λ answer.
-            LooksFor self.now.table.longest span answer tally.old.scanned tally.new.scanned) }
-    {
         let near = self.find_near(haystack, span, tally)?;
         if near.found.is_some() {
             return Ok(near.found);
