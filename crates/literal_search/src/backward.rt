@@ -251,9 +251,8 @@ impl<'t> Backward<'t> {
             end: span.end,
         };
         let at = self.pass_over(scan, haystack, rest, tally);
-        let part = self.part_after(marks.part, at - from);
-        *marks = no_marks(span.end);
         if at == span.end {
+            *marks = no_marks(at);
             return Ok(nothing_before(at));
         }
         if let Some(short) = self.short_at(span, from, at) {
@@ -261,6 +260,8 @@ impl<'t> Backward<'t> {
             let found = self.compare_at(&short, haystack, span, at, tally);
             return Ok(Looked { found, at: at + 1 });
         }
+        let part = self.part_after(marks.part, at - from);
+        *marks = no_marks(span.end);
         let longest = self.table.longest;
         *marks = if at - from >= longest.max(longest / 2 + FAR) {
             self.mark_offset(haystack, span, at, numbers, tally)?
