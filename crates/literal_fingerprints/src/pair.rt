@@ -26,6 +26,10 @@ pub const PAIR_BYTES: usize = 8;
 /// Fewer than this many bytes of a pattern are skipped.
 const MOST_SKIPPED: usize = 64;
 
+/// If the ranks of three bytes add up to less than this, they are rare enough. A search for one match walks over the
+/// skipped bytes at the end of its span, so none are skipped then.
+const RARE: usize = 700;
+
 /// Bytes of a pattern are skipped if the ranks of the three behind them add up to less than those of the first three by
 /// more than this.
 const MUCH: usize = 24;
@@ -328,8 +332,8 @@ fn without_first(lanes: usize, all: u8x16) -> u8x16
     both(all, shifted(lanes, u8x16::splat(0), u8x16::splat(255)))
 }
 
-/// How many first bytes of a pattern are skipped when its pair is chosen: none, or those before three bytes that are
-/// much rarer than the rarest of the first ones.
+/// How many first bytes of a pattern are skipped when its pair is chosen: none if three of the first ones are rare,
+/// otherwise those before three bytes that are much rarer.
 pub fn bytes_before_pair(pattern: &[u8]) -> u8
     ensures { result < max (length pattern.now) 1 }
 {
@@ -337,6 +341,9 @@ pub fn bytes_before_pair(pattern: &[u8]) -> u8
         return 0;
     }
     let (mut skipped, mut least) = (0, rank_of_three(pattern, 0));
+    if least < RARE {
+        return 0;
+    }
     for at in 1..(pattern.len() - 2).min(MOST_SKIPPED) {
         let rank = rank_of_three(pattern, at);
         if rank + MUCH < least {
