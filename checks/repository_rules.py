@@ -44,6 +44,11 @@ EXAMPLES = {
 }
 
 
+# The crates that show how the others are called, and how a text cites the lemmas of a crate.
+SHOWING = re.compile(r"crates/(literal_examples|literal_promise|readme_example|search_promise|test_contracts)/.*")
+CITED = re.compile(r"\b(literal_\w+)(?:\.|::)proofs(?:\.|::)lemmas(?:\.|::)(\w+)")
+
+
 def texts_of(root, below=""):
     """The texts of the files in a folder, by their paths from the top."""
     texts = {}
@@ -96,6 +101,17 @@ def sizes(texts):
             for number, line in lines_with(WIDE, text):
                 if not (path.endswith(".md") and line.startswith(("|", "#"))):
                     yield f"{path}:{number}: more than 120 columns"
+
+
+def lemmas(texts):
+    """Where the crates show how others are called, they cite lemmas of these only from `Callers.antt`, and from files
+    whose first comment says that they are for callers."""
+    for path, text in texts.items():
+        shown = SHOWING.fullmatch(path)
+        for crate, name in CITED.findall(text) if shown else ():
+            comment = texts.get(f"crates/{crate}/proofs/lemmas/{name}.antt", "").split("\nuse ")[0]
+            if crate != shown[1] and name != "Callers" and "For callers." not in comment.replace("\n-- ", " "):
+                yield f"{path} cites {crate}'s lemmas in {name}, which are not for callers"
 
 
 def unsafe(texts):
@@ -186,7 +202,7 @@ def contracts_in(text, path):
     return [contract_of(re.sub(r"^ *//.*\n", "", head, flags=re.M)) for head in heads]
 
 
-RULES = [handles, walks, citations, sizes, unsafe, definitions, examples, quotes]
+RULES = [handles, walks, citations, sizes, lemmas, unsafe, definitions, examples, quotes]
 
 
 def broken_rules(texts):

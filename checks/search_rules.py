@@ -33,7 +33,9 @@ CONFIRMING = "crates/literal_prefilters/src/prefilter/confirming.rt"
 MAKERS = (
     "Builder::build", "Searcher::find_in", "Searcher::find_iter", "Prefilter::find_in", "ConfirmingSearch::find_in",
     "Search::find_in", "Search::match_in", "Search::find_all_in", "MatchesIterator::next", "StartsIterator::next",
-    "Search::replace_all", "WholeWords::find_in", "WholeWordMatchesIterator::next",
+    "Search::replace_all", "Search::replace_stream", "Search::replace_stream_with", "StreamMatchesIterator::next",
+    "WholeWords::find_in", "WholeWords::replace_stream", "WholeWords::replace_stream_with",
+    "WholeWordMatchesIterator::next", "WholeWordStreamMatchesIterator::next",
     "WholeWords::find_text_in", "WordMatchesBySidesIterator::next",
     "Overlapping::earliest_end", "Overlapping::count_overlapping_in", "OverlappingMatchesIterator::next",
     "OverlappingStreamMatchesIterator::next",

@@ -1,5 +1,5 @@
 /* Calls each function of the header, with lists of length 0 by NULL too, and ends with 1 where an answer is wrong, as
- * it then says, with the name of its own function. With the word `stack` it does so on a thread with a stack of 16
+ * it then says, with the name of its own function. With the word `stack` it does so on a thread with a stack of 32
  * KiB. */
 #include <pthread.h>
 #include <stdint.h>
@@ -27,7 +27,7 @@ static inline void *limited_growth(void *block, size_t size) {
 #define realloc limited_growth
 #include "literal_search.h"
 
-enum { STACK = 16 * 1024, PLACES = 4096 };
+enum { STACK = 32 * 1024, PLACES = 4096 };
 
 static const char *const WORDS[] = {"apple", "maple", "Snapple"};
 static const char TEXT[] = "Nobody likes maple in their apple flavored Snapple.";
@@ -88,7 +88,7 @@ static void by_patterns(const uint8_t *text, size_t len) {
 
 static void prepare(void) {
     size_t needed = 0, again = 0;
-    literal_info info = {7, 7, 7, 7};
+    literal_info info = {7, 7, 7, 7, 7};
     CHECK(literal_prepared_info(prepared, PLACES, &info) == LITERAL_DAMAGED && info.patterns == 7);
     CHECK(literal_prepare(0, false, patterns, 17, ends, 3, NULL, 0, &needed) == LITERAL_TOO_SHORT && needed > 0);
     CHECK(needed < PLACES);
@@ -103,9 +103,9 @@ static void prepare(void) {
     CHECK(again == needed && literal_check_prepared(for_all, needed) == LITERAL_DAMAGED);
     CHECK(literal_check_overlapping(for_all, needed) == LITERAL_OK);
     CHECK(literal_check_overlapping(for_all, needed - 1) == LITERAL_DAMAGED);
-    CHECK(literal_prepared_info(prepared, PLACES, &info) == LITERAL_OK && info.is_overlapping == 0);
+    CHECK(literal_prepared_info(prepared, PLACES, &info) == LITERAL_OK && info.is_overlapping == 0 && info.kind == 0);
     CHECK(info.patterns == 3 && info.shortest == 5 && info.longest == 7);
-    CHECK(literal_prepared_info(for_all, PLACES, &info) == LITERAL_OK && info.is_overlapping == 1);
+    CHECK(literal_prepared_info(for_all, PLACES, &info) == LITERAL_OK && info.is_overlapping == 1 && info.kind == 0);
     CHECK(info.patterns == 3 && info.shortest == 5 && info.longest == 7);
 }
 
@@ -137,6 +137,11 @@ static void by_prepared(const uint8_t *text, size_t len) {
     CHECK(literal_find_so_far_in(prepared, PLACES, text, len, 34, false, found, &count) == LITERAL_OK && count == 50);
     CHECK(literal_find_so_far_in(prepared, PLACES, text, 20, 21, true, found, &count) == LITERAL_BAD_ARGUMENTS);
     CHECK(is(found, 2, 43, 50) && count == 50);
+    CHECK(literal_find_all_so_far_in(prepared, PLACES, text, 34, 0, true, found, 3, &page) == LITERAL_OK);
+    CHECK(page.written == 1 && page.is_last == 1 && page.next == 28 && is(found, 1, 13, 18));
+    CHECK(literal_find_all_so_far_in(prepared, PLACES, text, len, 18, false, found, 1, &page) == LITERAL_OK);
+    CHECK(page.written == 1 && page.is_last == 0 && page.next == 33 && is(found, 0, 28, 33));
+    CHECK(literal_find_all_so_far_in(prepared, PLACES, text, 20, 21, true, found, 3, &page) == LITERAL_BAD_ARGUMENTS);
     CHECK(literal_find_all_in(prepared, PLACES, text, len, 14, 50, found, 3, &page) == LITERAL_OK);
     CHECK(page.written == 2 && page.is_last == 1 && is(&found[0], 0, 28, 33) && is(&found[1], 2, 43, 50));
     CHECK(literal_find_overlapping_in(for_all, PLACES, text, len, 14, len, found, 3, &page) == LITERAL_OK);
@@ -161,7 +166,7 @@ static void by_null(const uint8_t *text, size_t len) {
     static uint32_t empty[PLACES];
     literal_match found = {7, 8, 9};
     literal_page page = {7, 8, 9};
-    literal_info info = {7, 7, 7, 7};
+    literal_info info = {7, 7, 7, 7, 7};
     size_t needed = 0, count = 7;
     CHECK(literal_can_search(NULL, 0, NULL, 0) == LITERAL_OK);
     CHECK(literal_find(0, false, NULL, 0, NULL, 0, text, len, 0, len, &found) == LITERAL_NONE);
@@ -181,7 +186,10 @@ static void by_null(const uint8_t *text, size_t len) {
     CHECK(literal_find_so_far_in(NULL, 0, text, len, 0, true, &found, &needed) == LITERAL_DAMAGED && needed == 0);
     CHECK(literal_find_so_far_in(prepared, PLACES, NULL, 0, 0, false, &found, &needed) == LITERAL_NONE);
     CHECK(literal_find_all_in(prepared, PLACES, NULL, 0, 0, 0, &found, 1, &page) == LITERAL_OK && page.is_last == 1);
+    CHECK(literal_find_all_so_far_in(prepared, PLACES, NULL, 0, 0, true, &found, 1, &page) == LITERAL_OK);
     page = (literal_page){7, 8, 9};
+    CHECK(literal_find_all_so_far_in(prepared, PLACES, text, len, 0, true, NULL, 0, &page) == LITERAL_BAD_ARGUMENTS);
+    CHECK(literal_find_all_so_far_in(NULL, 0, text, len, 0, true, &found, 1, &page) == LITERAL_DAMAGED);
     CHECK(literal_find_all_in(prepared, PLACES, text, len, 0, len, NULL, 0, &page) == LITERAL_BAD_ARGUMENTS);
     CHECK(literal_find_all_words_in(0, prepared, PLACES, text, len, 0, len, NULL, 0, &page) == LITERAL_BAD_ARGUMENTS);
     CHECK(literal_find_overlapping_in(for_all, PLACES, text, len, 0, len, NULL, 0, &page) == LITERAL_BAD_ARGUMENTS);

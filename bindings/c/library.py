@@ -14,7 +14,6 @@ TYPES = {
     "uint32_t": ctypes.c_uint32,
     "int32_t": ctypes.c_int32,
     "size_t": ctypes.c_size_t,
-    "bool": ctypes.c_bool,
     "const uint8_t *": ctypes.c_void_p,
 }
 NUMBERS = {it[0]: int(it[1]) for it in re.findall(r"#define LITERAL_(\w+) ([0-9]+)", HEADER)}

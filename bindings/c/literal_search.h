@@ -26,6 +26,9 @@
  * With ignore_case A to Z equal a to z, in patterns and haystacks; all other bytes are compared as they are. To ignore
  * Unicode's case, see literal_fold.
  *
+ * The flags ignore_case and more are numbers, so that callers in other languages can pass integers of 32 bits: 0 is
+ * false, and every other number is true.
+ *
  * There are three ways to search:
  *
  *   1. literal_find, literal_find_all, literal_find_overlapping, literal_count_overlapping and literal_find_each take
@@ -39,14 +42,13 @@
  * versions of the library, an array of the other version is LITERAL_DAMAGED: its first number is the format. Then
  * prepare the search again.
  *
- * A call looks up at most three times the bytes to search, with one exception: if a pattern has more than 1,024 bytes,
- * a call for all matches, or their count, searches anew after each match. Then it looks up at most eleven times the
- * bytes, and, for each match that it finds (a page also finds the next), 108 more than 18 times the length of the
- * longest pattern. A call for the leftmost match that finds one also looks up at most eleven times the bytes before it,
- * and 576 more, or 108 more than 18 times that length, whichever is more.
+ * A call looks up at most three times the bytes to search. A call for all matches, or their count, may look up each byte
+ * once more for each whole 262,000 bytes of the longest pattern. A call for the leftmost match that finds one also looks
+ * up at most eleven times the bytes before it, and 576 more, or 108 more than 18 times the length of the longest
+ * pattern, whichever is more.
  *
- * A call for whole words also looks up, for each offset at which a pattern begins, at most the square of one more than
- * the length of the longest pattern; and if that has more than 1,024 bytes, three times the bytes to search.
+ * A call for whole words also looks up, for each offset at which a pattern begins, at most one byte more than the longest
+ * pattern has. These bounds are proved of the searches that the calls make, and not of the calls themselves.
  *
  * Each call checks its arguments and returns one of the statuses below. It checks in this order: LITERAL_BAD_ARGUMENTS,
  * LITERAL_NO_SEARCHER, then, while the search is built, LITERAL_OUT_OF_MEMORY and LITERAL_TOO_LARGE, then
@@ -69,7 +71,7 @@
  * that begins with an earlier one never matches: it adds no rows to a prepared array, but counts for LITERAL_TOO_LARGE.
  *
  * No call keeps anything after it returns, and only a search of literal_new is to be freed. Any thread may call at any
- * time. A call needs less than 16 KiB of stack.
+ * time. A call needs less than 32 KiB of stack.
  *
  * The caller must ensure what no call can check:
  *   - Each pointer is aligned for its type and points to at least as many elements as its length says. With a length of
@@ -124,7 +126,9 @@ typedef struct literal_match {
 } literal_match;
 
 /* The result of a call that finds all: how many matches it wrote, the offset where the search goes on, and 1 if no
- * match is left from there on, else 0: then the next match of literal_find_all or literal_find_all_in begins there. */
+ * match is left from there on, else 0. With 1 the offset is the end of the last match, or where the page began if there
+ * is none. With 0 the next match begins there; for every occurrence, the offset is the end of the last one in any case.
+ * literal_find_all_so_far_in says what the last two are in a text that comes in pieces. */
 typedef struct literal_page {
     size_t written;
     size_t next;
@@ -132,13 +136,14 @@ typedef struct literal_page {
 } literal_page;
 
 /* What an array was prepared for: the number of patterns, the lengths of the shortest and of the longest one (0 without
- * patterns), and 1 for literal_prepare_overlapping, 0 for literal_prepare. An array does not tell the kind of match,
- * nor whether case is ignored. */
+ * patterns), 1 for literal_prepare_overlapping, 0 for literal_prepare, and for the latter the kind of match, else 0. An
+ * array does not tell whether case is ignored. */
 typedef struct literal_info {
     size_t patterns;
     size_t shortest;
     size_t longest;
     uint32_t is_overlapping;
+    uint32_t kind;
 } literal_info;
 
 /* The answer for one haystack: LITERAL_OK and its leftmost match, or LITERAL_NONE and a match of zeros. */
@@ -192,7 +197,7 @@ int32_t literal_can_search(const uint8_t *patterns, size_t patterns_len, const s
  * LITERAL_OK             found holds the match
  * LITERAL_NONE           no pattern occurs there
  * LITERAL_BAD_ARGUMENTS  start is above end, or end above haystack_len */
-int32_t literal_find(uint32_t kind, bool ignore_case, const uint8_t *patterns, size_t patterns_len,
+int32_t literal_find(uint32_t kind, uint32_t ignore_case, const uint8_t *patterns, size_t patterns_len,
                      const size_t *ends, size_t ends_len, const uint8_t *haystack, size_t haystack_len,
                      size_t start, size_t end, literal_match *found);
 
@@ -203,13 +208,13 @@ int32_t literal_find(uint32_t kind, bool ignore_case, const uint8_t *patterns, s
  * shorter haystack_len.
  *
  * After its last match a page looks for the next one: page->next is its start, so that the next page reads no bytes
- * before it again. A page may also look up some 2,000 bytes after that (more, if a pattern has more than 1,024), which
- * the next page looks up again. So provide room for hundreds of matches if there are many; for a single match
- * literal_find is faster.
+ * before it again. A page may also look up some 2,000 bytes after that, which the next page looks up again. If a pattern
+ * has more than 1,024 bytes, these are up to twice as many as the page and that pattern have. So provide room for
+ * hundreds of matches if there are many; for a single match literal_find is faster.
  *
  * LITERAL_OK             found and page are written, also if no pattern occurs (then page->written is 0)
  * LITERAL_BAD_ARGUMENTS  from is above haystack_len, or found_len is 0: a loop over such pages would never end */
-int32_t literal_find_all(uint32_t kind, bool ignore_case, const uint8_t *patterns, size_t patterns_len,
+int32_t literal_find_all(uint32_t kind, uint32_t ignore_case, const uint8_t *patterns, size_t patterns_len,
                          const size_t *ends, size_t ends_len, const uint8_t *haystack, size_t haystack_len,
                          size_t from, literal_match *found, size_t found_len, literal_page *page);
 
@@ -221,7 +226,7 @@ int32_t literal_find_all(uint32_t kind, bool ignore_case, const uint8_t *pattern
  *
  * LITERAL_OK             found and page are written, also if no pattern occurs (then page->written is 0)
  * LITERAL_BAD_ARGUMENTS  start is above end, end above haystack_len, or found_len is 0 */
-int32_t literal_find_overlapping(bool ignore_case, const uint8_t *patterns, size_t patterns_len, const size_t *ends,
+int32_t literal_find_overlapping(uint32_t ignore_case, const uint8_t *patterns, size_t patterns_len, const size_t *ends,
                                  size_t ends_len, const uint8_t *haystack, size_t haystack_len, size_t start,
                                  size_t end, literal_match *found, size_t found_len, literal_page *page);
 
@@ -229,9 +234,9 @@ int32_t literal_find_overlapping(bool ignore_case, const uint8_t *patterns, size
  *
  * LITERAL_OK             count holds the number, or SIZE_MAX if there are as many or more
  * LITERAL_BAD_ARGUMENTS  start is above end, or end above haystack_len */
-int32_t literal_count_overlapping(bool ignore_case, const uint8_t *patterns, size_t patterns_len, const size_t *ends,
-                                  size_t ends_len, const uint8_t *haystack, size_t haystack_len, size_t start,
-                                  size_t end, size_t *count);
+int32_t literal_count_overlapping(uint32_t ignore_case, const uint8_t *patterns, size_t patterns_len,
+                                  const size_t *ends, size_t ends_len, const uint8_t *haystack, size_t haystack_len,
+                                  size_t start, size_t end, size_t *count);
 
 /* The leftmost match of each of many haystacks, passed in one buffer like patterns. The search is built once for all of
  * them. answers[i] is the answer for haystack i, with offsets from the beginning of that haystack.
@@ -239,7 +244,7 @@ int32_t literal_count_overlapping(bool ignore_case, const uint8_t *patterns, siz
  * LITERAL_OK             every answer is written
  * LITERAL_BAD_ARGUMENTS  the ends of the haystacks decrease or exceed their buffer, or answers_len is not the number of
  *                        haystacks */
-int32_t literal_find_each(uint32_t kind, bool ignore_case, const uint8_t *patterns, size_t patterns_len,
+int32_t literal_find_each(uint32_t kind, uint32_t ignore_case, const uint8_t *patterns, size_t patterns_len,
                           const size_t *ends, size_t ends_len, const uint8_t *haystacks, size_t haystacks_len,
                           const size_t *haystack_ends, size_t haystack_ends_len, literal_answer *answers,
                           size_t answers_len);
@@ -250,7 +255,7 @@ int32_t literal_find_each(uint32_t kind, bool ignore_case, const uint8_t *patter
  *
  * LITERAL_OK             prepared and needed are written
  * LITERAL_TOO_SHORT      the array has fewer than *needed entries, and is unchanged */
-int32_t literal_prepare(uint32_t kind, bool ignore_case, const uint8_t *patterns, size_t patterns_len,
+int32_t literal_prepare(uint32_t kind, uint32_t ignore_case, const uint8_t *patterns, size_t patterns_len,
                         const size_t *ends, size_t ends_len, uint32_t *prepared, size_t prepared_len, size_t *needed);
 
 /* The same for every occurrence. The array also lists, for each pattern, the patterns that are a suffix of it.
@@ -258,8 +263,9 @@ int32_t literal_prepare(uint32_t kind, bool ignore_case, const uint8_t *patterns
  * LITERAL_OK             prepared and needed are written
  * LITERAL_TOO_SHORT      the array has fewer than *needed entries, and is unchanged
  * LITERAL_OUT_OF_MEMORY  also if the lists would have 2^32 numbers or more */
-int32_t literal_prepare_overlapping(bool ignore_case, const uint8_t *patterns, size_t patterns_len, const size_t *ends,
-                                    size_t ends_len, uint32_t *prepared, size_t prepared_len, size_t *needed);
+int32_t literal_prepare_overlapping(uint32_t ignore_case, const uint8_t *patterns, size_t patterns_len,
+                                    const size_t *ends, size_t ends_len, uint32_t *prepared, size_t prepared_len,
+                                    size_t *needed);
 
 /* Whether an array of literal_prepare is intact, for instance after it was kept in a file: by its version, its lengths,
  * and a check over all of it. It finds accidental damage, and is no defence against a forger.
@@ -283,9 +289,9 @@ int32_t literal_prepared_info(const uint32_t *prepared, size_t prepared_len, lit
  * search, as in an array that is too short or of the other kind, the answer is always LITERAL_DAMAGED, if the other
  * arguments are right. If other numbers of the array were changed, each function still returns, and writes only to the
  * lent memory. A match lies in the bytes that were searched, and its pattern is below prepared[3], the array's number
- * of patterns. A page is the last, or fills found; page->next of literal_find_all_in is at least page->written bytes
- * after start, so a loop over pages ends. But the answer may be wrong, with LITERAL_DAMAGED or without, and with
- * LITERAL_DAMAGED some entries for matches or answers may be written. */
+ * of patterns. A page is the last, or fills found; page->next of literal_find_all_in and literal_find_all_so_far_in is at
+ * least page->written bytes after start, so a loop over pages ends. But the answer may be wrong, with LITERAL_DAMAGED or
+ * without, and with LITERAL_DAMAGED some entries for matches or answers may be written. */
 
 /* Like literal_find.
  *
@@ -302,18 +308,34 @@ int32_t literal_find_in(const uint32_t *prepared, size_t prepared_len, const uin
  * pattern, are no longer needed. Keep the bytes from next on, append the next piece, and call again, with start where
  * the kept bytes are now. If pieces are short, append at least as many bytes as are kept before the next call, or all
  * up to the end: then each byte is in at most two calls, except that a call also looks up bytes after its match, within
- * the bound above. With more false the answer is the leftmost match of the bytes from start on, as of literal_find_in,
- * or next is haystack_len.
+ * the bound above. If there are many matches, literal_find_all_so_far_in looks up far fewer bytes. With more false the
+ * answer is the leftmost match of the bytes from start on, as of literal_find_in, or next is haystack_len.
  *
  * LITERAL_OK             found holds the match, and next its end
  * LITERAL_NONE           whatever follows, no match begins before next; found is unchanged
  * LITERAL_BAD_ARGUMENTS  start is above haystack_len */
 int32_t literal_find_so_far_in(const uint32_t *prepared, size_t prepared_len, const uint8_t *haystack,
-                               size_t haystack_len, size_t start, bool more, literal_match *found, size_t *next);
+                               size_t haystack_len, size_t start, uint32_t more, literal_match *found, size_t *next);
+
+/* All matches from start on in a text that comes in pieces, as far as they are known, up to found_len. The haystack,
+ * start and more are as for literal_find_so_far_in, and the matches are those that its calls report one after another.
+ * If found is full, page->is_last is 0, and page->next is the end of the last match: call again, with page->next as
+ * start. Otherwise page->is_last is 1, and page->next is the first offset, not before the end of the last match, where a
+ * match may still begin: keep the bytes from there on, append the next piece, and call again. With more false, that
+ * offset is haystack_len, and no match is left.
+ *
+ * A page is one search: it looks up at most three times the bytes from start on, and once more for each whole 262,000
+ * bytes of the longest pattern. A full page may also look up bytes after its last match that the next page looks up
+ * again, as of literal_find_all. So provide room for hundreds of matches if there are many.
+ *
+ * LITERAL_OK             found and page are written, also if no match is known (then page->written is 0)
+ * LITERAL_BAD_ARGUMENTS  start is above haystack_len, or found_len is 0 */
+int32_t literal_find_all_so_far_in(const uint32_t *prepared, size_t prepared_len, const uint8_t *haystack,
+                                   size_t haystack_len, size_t start, uint32_t more, literal_match *found,
+                                   size_t found_len, literal_page *page);
 
 /* Like literal_find_all, in the bytes of the haystack from start up to and not including end. To go on, call again with
- * page->next as start. If no pattern has more than 1,024 bytes, by the array, the bound of three times holds even if
- * other numbers of the array were changed.
+ * page->next as start. The bound holds for any array, by the length of the longest pattern that it gives.
  *
  * LITERAL_OK             found and page are written, also if no pattern occurs (then page->written is 0)
  * LITERAL_BAD_ARGUMENTS  start is above end, end above haystack_len, or found_len is 0 */
@@ -368,7 +390,7 @@ int32_t literal_count_in(const uint32_t *prepared, size_t prepared_len, const ui
  * pattern with no ASCII letter, digit or underscore right before it, and none right after it. The bytes of the haystack
  * next to those that are searched count too. Of the whole words that begin at one offset it is the one that the kind
  * prefers; a pattern that is no whole word hides no other one. The array has to be of literal_prepare with
- * LITERAL_LEFTMOST_LONGEST, whatever the kind is here: with another one words may be missing.
+ * LITERAL_LEFTMOST_LONGEST, whatever the kind is here: by another one the answer is always LITERAL_DAMAGED.
  *
  * LITERAL_OK             found holds the word
  * LITERAL_NONE           there is no whole word
@@ -614,7 +636,7 @@ static inline int literal_each_overlapping(const literal_search *search, const v
                                            int (*function)(void *context, literal_match found), void *context) {
     literal_match few[128], *many = NULL, *more;
     literal_page page = {0, 0, 0};
-    literal_info info = {0, 0, 0, 0};
+    literal_info info = {0, 0, 0, 0, 0};
     size_t room = 128, next = 0, pattern = 0;
     int answer = 0;
     while (page.is_last == 0 && answer == 0) {

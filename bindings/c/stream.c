@@ -22,26 +22,26 @@ static size_t prepare(const char *const *words, size_t words_len, uint32_t *prep
 int main(int count, char **words) {
     static uint32_t prepared[PLACES];
     static uint8_t held[2 * ROOM + BLOCK];
+    static literal_match found[ROOM];
     size_t prepared_len = prepare((const char *const *)words + 1, count > 1 ? (size_t)count - 1 : 0, prepared);
     size_t before = 0, len = 0; /* how many bytes came before those that are held, and how many these are */
     bool more = true;
 
     while (more) {
-        size_t at = 0, wanted = len + BLOCK, piece = fread(held + len, 1, wanted, stdin);
-        int32_t status = LITERAL_OK;
-        literal_match found;
+        literal_page page = {0, 0, 0};
+        size_t wanted = len + BLOCK, piece = fread(held + len, 1, wanted, stdin);
         len += piece;
         more = piece == wanted;
-        while (status == LITERAL_OK) {
-            status = literal_find_so_far_in(prepared, prepared_len, held, len, at, more, &found, &at);
-            if (status == LITERAL_OK)
-                printf("%zu %zu %zu\n", found.pattern, before + found.start, before + found.end);
+        while (page.is_last == 0) {
+            if (literal_find_all_so_far_in(prepared, prepared_len, held, len, page.next, more, found, ROOM, &page) !=
+                LITERAL_OK)
+                abort(); /* (the array is as it was written) */
+            for (size_t i = 0; i < page.written; i++)
+                printf("%zu %zu %zu\n", found[i].pattern, before + found[i].start, before + found[i].end);
         }
-        if (status != LITERAL_NONE)
-            abort(); /* (the array is as it was written) */
-        memmove(held, held + at, len - at);
-        before += at;
-        len -= at;
+        memmove(held, held + page.next, len - page.next);
+        before += page.next;
+        len -= page.next;
     }
     return ferror(stdin) ? 2 : 0;
 }

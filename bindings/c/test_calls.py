@@ -255,8 +255,9 @@ class Pages(unittest.TestCase):
             CALLS.literal_find_overlapping_in(*for_all, *text, 0, 50, *lent),
             CALLS.literal_find_overlapping_from_in(*for_all, *text, 0, 50, 0, 0, *lent),
             CALLS.literal_find_all_words_in(0, *array, *text, 0, 50, *lent),
+            CALLS.literal_find_all_so_far_in(*array, *text, 0, True, *lent),
         )
-        self.assertEqual((statuses, fields(lent[0]), fields(page)), ((BAD_ARGUMENTS,) * 6, BEFORE, BEFORE))
+        self.assertEqual((statuses, fields(lent[0]), fields(page)), ((BAD_ARGUMENTS,) * 7, BEFORE, BEFORE))
 
 
 class SoFar(unittest.TestCase):
@@ -280,6 +281,25 @@ class SoFar(unittest.TestCase):
             self.assertLess(len(held), longest if more else 1)
         return spans
 
+    def paged(self, array, longest, text, sizes, room):
+        """The same by pages of so many matches, in pieces of the given sizes."""
+        found, page, held, before, spans, at = (Match * (room + 1))(), Page(), b"", 0, [], 0
+        while at < len(text) or page.is_last == 0:
+            at += next(sizes)
+            held, more = text[before:at], at < len(text)
+            start, page.is_last = 0, 0
+            while not page.is_last:
+                found[room] = Match(*BEFORE)
+                status = CALLS.literal_find_all_so_far_in(*array, held, len(held), start, more, found, room, page)
+                self.assertEqual((status, page.is_last, fields(found[room])), (OK, page.written < room, BEFORE))
+                ends = [start, *(it.end for it in found[: page.written])]
+                first_open = max(ends[-1], len(held) - longest + 1 if more else len(held))
+                self.assertEqual(page.next, first_open if page.is_last else ends[-1])
+                spans += [(it.pattern, before + it.start, before + it.end) for it in found[: page.written]]
+                start = page.next
+            before += start
+        return spans
+
     def test_pieces(self):
         chance = random.Random(5)
         for _ in range(300):
@@ -290,6 +310,9 @@ class SoFar(unittest.TestCase):
             wanted = [fields(it) for it in room[: page.written]]
             for size in (1, 2, 3, 7, 60):
                 self.assertEqual(self.spans(array, max(map(len, words)), text, size), wanted, (words, text, size))
+            for most in (1, 3, 60):
+                sizes, places = iter(lambda: chance.randint(0, most), None), chance.choice((1, 2, 3, 100))
+                self.assertEqual(self.paged(array, max(map(len, words)), text, sizes, places), wanted, (words, text))
 
     def test_what_is_known(self):
         array, found, next_at = prepared([b"ab", b"abcd"]), Match(*BEFORE), ctypes.c_size_t(7)
@@ -304,6 +327,28 @@ class SoFar(unittest.TestCase):
         ):
             status = CALLS.literal_find_so_far_in(*array, b"xabcx", length, start, more, found, next_at)
             self.assertEqual((status, fields(found), next_at.value), wanted, (length, start, more))
+
+    def test_pages_of_what_is_known(self):
+        """Of all matches those that stand whatever follows: for each length, with little room and with much."""
+        array, text, found, page = prepared([b"ab", b"abcd", b"b"], 1), b"ab abcd b abc", (Match * 9)(), Page()
+        matches = [(0, 0, 2), (1, 3, 7), (2, 8, 9), (0, 10, 12)]
+        for room in (1, 2, 9):
+            for length in range(len(text) + 1):
+                known = [it for it in matches if it[1] + 4 <= length][:room]
+                end, is_last = max((it[2] for it in known), default=0), len(known) < room
+                status = CALLS.literal_find_all_so_far_in(*array, text, length, 0, 7, found, room, page)
+                self.assertEqual((status, [fields(it) for it in found[: page.written]]), (OK, known), length)
+                self.assertEqual((page.next, page.is_last), (max(end, length - 3) if is_last else end, is_last), length)
+        for start, more, wanted in (
+            (14, True, (BAD_ARGUMENTS, BEFORE)),
+            (13, True, (OK, (0, 13, 1))),
+            (11, True, (OK, (0, 11, 1))),
+            (11, False, (OK, (1, 13, 1))),
+            (0, False, (OK, (4, 13, 1))),
+        ):
+            page = Page(*BEFORE)
+            status = CALLS.literal_find_all_so_far_in(*array, text, 13, start, more, found, 9, page)
+            self.assertEqual((status, fields(page)), wanted, (start, more))
 
 
 class Words(unittest.TestCase):
@@ -385,10 +430,13 @@ class Words(unittest.TestCase):
             self.assertEqual(CALLS.literal_find_word_in(*asked, found), BAD_ARGUMENTS)
             self.assertEqual(CALLS.literal_find_all_words_in(*asked, room, 1, page), BAD_ARGUMENTS)
             self.assertEqual(CALLS.literal_count_words_in(*asked, number), BAD_ARGUMENTS)
-        asked = 0, array[0], 5, self.TEXT, 40, 0, 40
-        self.assertEqual(CALLS.literal_find_word_in(*asked, found), DAMAGED)
-        self.assertEqual(CALLS.literal_find_all_words_in(*asked, room, 1, page), DAMAGED)
-        self.assertEqual(CALLS.literal_count_words_in(*asked, number), DAMAGED)
+        # (an array that is too short, one of the other kind, and that of no word)
+        for damaged in (array[0], 5), prepared(self.WORDS, 0), prepared([], 0), prepared_for_all(self.WORDS):
+            asked = 0, *damaged, self.TEXT, 40, 0, 40
+            self.assertEqual(CALLS.literal_find_word_in(*asked, found), DAMAGED)
+            self.assertEqual(CALLS.literal_find_all_words_in(*asked, room, 1, page), DAMAGED)
+            self.assertEqual(CALLS.literal_count_words_in(*asked, number), DAMAGED)
+        self.assertEqual(CALLS.literal_find_word_in(0, *prepared([], 1), self.TEXT, 40, 0, 40, found), NONE)
         self.assertEqual((*fields(found), *fields(page), *fields(room[0]), number.value), (*BEFORE * 3, 7))
 
 
@@ -415,12 +463,13 @@ class Arrays(unittest.TestCase):
         for _ in range(300):
             words = [bytes(chance.choices(b"abA", k=chance.randint(1, 9))) for _ in range(chance.randint(0, 5))]
             lens = len(words), min(map(len, words), default=0), max(map(len, words), default=0)
-            for kind, (array, length) in enumerate((prepared(words, 0, True), prepared_for_all(words, True))):
-                info = Info(7, 8, 9, 10)
+            arrays = (0, 0, prepared(words, 0, True)), (0, 1, prepared(words, 1, True)), (1, 0, prepared_for_all(words, True))
+            for is_overlapping, kind, (array, length) in arrays:
+                info = Info(7, 8, 9, 10, 11)
                 self.assertEqual(CALLS.literal_prepared_info(array, length - 1, info), DAMAGED)
-                self.assertEqual(fields(info), (7, 8, 9, 10))
+                self.assertEqual(fields(info), (7, 8, 9, 10, 11))
                 self.assertEqual(CALLS.literal_prepared_info(array, length, info), OK)
-                self.assertEqual(fields(info), (*lens, kind), words)
+                self.assertEqual(fields(info), (*lens, is_overlapping, kind), words)
                 array[0] ^= 1
                 self.assertEqual(CALLS.literal_prepared_info(array, length, info), DAMAGED)
 
@@ -469,11 +518,12 @@ class Arrays(unittest.TestCase):
             statuses = (
                 CALLS.literal_find_in(*asked, 0, len(TEXT), found[0]),
                 CALLS.literal_find_so_far_in(*asked, 0, True, found[0], number),
+                CALLS.literal_find_all_so_far_in(*asked, 0, True, found, 2, page),
                 CALLS.literal_find_all_in(*asked, 0, len(TEXT), found, 2, page),
                 CALLS.literal_find_each_in(*asked, lines, 1, answers, 1),
                 CALLS.literal_count_in(*asked, 0, len(TEXT), number),
             )
-            self.assertEqual(statuses, (DAMAGED,) * 5)
+            self.assertEqual(statuses, (DAMAGED,) * 6)
         for lent, given in (None, 0), (array, length), (for_all, 1), (for_all, longer - 1):
             asked = (lent, given, TEXT, len(TEXT))
             self.assertEqual(CALLS.literal_find_overlapping_in(*asked, 0, len(TEXT), found, 2, page), DAMAGED)
@@ -541,14 +591,53 @@ class Arrays(unittest.TestCase):
                 word = chance.choice((0, 1, 2, 255, 2**31, 2**32 - 1, chance.randrange(2**32)))
                 copy[chance.randrange(length)] = word
             room, page = (Match * 5)(*[Match(*BEFORE)] * 5), Page()
+            found, known = (Match * 5)(*[Match(*BEFORE)] * 5), Page()
             status = CALLS.literal_find_all_in(copy, length, TEXT, len(TEXT), 9, 50, room, 4, page)
             seen.add(status)
             self.assertEqual(fields(room[4]), BEFORE)
-            if status == OK:
-                ends = [9, *(it for found in room[: page.written] for it in fields(found)[1:])]
-                self.assertTrue(ends == sorted(ends) and ends[-1] <= 50, ends)
-                self.assert_page(copy, 9, room, page)
+            more = chance.random() < 0.5
+            told = CALLS.literal_find_all_so_far_in(copy, length, TEXT[:50], 50, 9, more, found, 4, known)
+            self.assertEqual(fields(found[4]), BEFORE)
+            for answer, places, it in (status, room, page), (told, found, known):
+                if answer == OK:
+                    ends = [9, *(it for found in places[: it.written] for it in fields(found)[1:])]
+                    self.assertTrue(ends == sorted(ends) and ends[-1] <= 50, ends)
+                    self.assert_page(copy, 9, places, it)
         self.assertEqual(seen, {OK, DAMAGED})
+
+
+class Flags(unittest.TestCase):
+    """A flag is a number: 0 is false, and every other number is true, whichever of its bits is set."""
+
+    NUMBERS = 0, 1, 2, 3, 255, 256, 2**31, 2**32 - 1
+
+    def test_ignored_case(self):
+        words, text = joined([b"ab"]), (b"xABx", 4)
+        for flag in self.NUMBERS:
+            found, page, answers, count = (Match * 1)(), Page(), (Answer * 1)(), ctypes.c_size_t(9)
+            ends, wanted = (ctypes.c_size_t * 1)(4), int(flag != 0)
+            self.assertEqual(CALLS.literal_find(0, flag, *words, *text, 0, 4, found), OK if wanted else NONE)
+            self.assertEqual(CALLS.literal_find_all(0, flag, *words, *text, 0, found, 1, page), OK)
+            self.assertEqual(page.written, wanted)
+            self.assertEqual(CALLS.literal_find_overlapping(flag, *words, *text, 0, 4, found, 1, page), OK)
+            self.assertEqual(page.written, wanted)
+            self.assertEqual(CALLS.literal_find_each(0, flag, *words, *text, ends, 1, answers, 1), OK)
+            self.assertEqual(answers[0].status, OK if wanted else NONE)
+            self.assertEqual(CALLS.literal_count_overlapping(flag, *words, *text, 0, 4, count), OK)
+            self.assertEqual(count.value, wanted)
+            self.assertEqual(CALLS.literal_count_in(*prepared([b"ab"], 0, flag), *text, 0, 4, count), OK)
+            self.assertEqual(count.value, wanted)
+            array = prepared_for_all([b"ab"], flag)
+            self.assertEqual(CALLS.literal_count_overlapping_in(*array, *text, 0, 4, count), OK)
+            self.assertEqual(count.value, wanted)
+
+    def test_more(self):
+        array, found, at, page = prepared([b"ab"]), Match(), ctypes.c_size_t(), Page()
+        for flag in self.NUMBERS:
+            self.assertEqual(CALLS.literal_find_so_far_in(*array, b"xxa", 3, 0, flag, found, at), NONE)
+            self.assertEqual(at.value, 2 if flag else 3)
+            self.assertEqual(CALLS.literal_find_all_so_far_in(*array, b"xxa", 3, 0, flag, found, 1, page), OK)
+            self.assertEqual((page.written, page.next), (0, 2 if flag else 3))
 
 
 @unittest.skipUnless("refuse.so" in os.environ.get("LD_PRELOAD", ""), "run by bindings/test")

@@ -56,8 +56,8 @@ class Search(_native.Prepared[AnyStr]):
 
     With `ignore_case` the case of the characters of a str is ignored, by Unicode's simple case folding, if that has as
     many bytes in UTF-8: not for the Kelvin sign, and some thirty more. If a pattern has a character beyond ASCII, each
-    call folds a copy of its text. In bytes, and with `ignore_case="ascii"` in a str too, A to Z equal a to z, and all
-    else is compared as it is.
+    call folds a copy of its text, unless that is ASCII. In bytes, and with `ignore_case="ascii"` in a str too, A to Z
+    equal a to z, and all else is compared as it is.
 
     With `whole_words` it finds a pattern only with no word character right before it and none right after it: what `\\w`
     of `re` matches, in a str any letter or digit and the underscore, in bytes those of ASCII alone. The characters
@@ -178,8 +178,8 @@ class Search(_native.Prepared[AnyStr]):
 
     def find_each(self, texts: Any, skip_missing: bool = False) -> List[Optional[Match[Any]]]:
         """The leftmost match of each text, or None. Offsets are in that text. The texts may be a column of pandas, an
-        array of numpy, or one of Arrow (texts or bytes with offsets, by `__arrow_c_array__`), whose texts are searched
-        where they are. With `skip_missing`, None and NaN, but not pandas.NA, count as a text without a match.
+        array of numpy, or one of Arrow (texts or bytes with offsets, by `__arrow_c_array__`), whose short texts are
+        searched where they are. With `skip_missing`, None and NaN, but not pandas.NA, count as a text without a match.
 
         >>> Search(["ERROR", "WARN"]).find_each(["a WARN", "fine", "ERROR"])
         [Match(pattern=1, start=2, end=6), None, Match(pattern=0, start=0, end=5)]
@@ -225,9 +225,17 @@ class Search(_native.Prepared[AnyStr]):
 
     def finditer_stream(self, file: "SupportsRead[Optional[AnyStr]]") -> Iterator[Match[AnyStr]]:
         """Yields all matches in a file, up to its end, as `finditer` does in the whole text, whatever pieces it comes
-        in. Offsets are in the whole text, and each match has a copy of the matched part. The file's method `read` is
-        called for 128 KiB at a time, or as many characters. The last read is kept, and before it at most twice as many
-        bytes as the longest pattern has. A match is yielded once that pattern would fit after its start.
+        in. Offsets are in the whole text, and each match has a copy of the matched part.
+
+        The file is read 128 KiB at a time, or as many characters. If it is a buffered file of bytes, `read1` is called,
+        which waits only until there are some bytes; otherwise `read`. (That of a text file on a pipe waits until it has
+        as many characters: open the pipe with "rb".) The last read is kept, and before it fewer bytes than twice the
+        longest pattern has.
+
+        A match is yielded when as many bytes as the longest pattern has are read from its start on: nothing that follows
+        can change it then. Reads that are shorter than that pattern are collected while the next one does not wait. Of
+        a file that is neither buffered nor raw, or has no `fileno`, this is not known: then a match is yielded at the
+        latest when twice as many bytes are read.
 
         Exceptions of `read` pass through. A non-blocking file without data raises BlockingIOError. Either ends the
         iteration, after the matches that are known.
@@ -241,6 +249,7 @@ class Search(_native.Prepared[AnyStr]):
     def finditer_overlapping_stream(self, file: "SupportsRead[Optional[AnyStr]]") -> Iterator[Match[AnyStr]]:
         """Yields every occurrence in a file, up to its end, as `finditer_overlapping` does in the whole text. The file,
         memory, offsets, matches and errors are as of `finditer_stream`. An occurrence is yielded once it is read.
+        While short reads are collected, up to as many more bytes as the longest pattern has are read first.
 
         >>> from io import StringIO
         >>> [it.span() for it in Search(["aba", "b"]).finditer_overlapping_stream(StringIO("ababa"))]
@@ -261,9 +270,9 @@ class Search(_native.Prepared[AnyStr]):
     def sub_stream(
         self, file: "SupportsRead[Optional[AnyStr]]", out: "SupportsWrite[AnyStr]", replacement: "_Replacement[AnyStr]"
     ) -> None:
-        """Copies a file to another one, with each match replaced as by `sub`, and writes text as soon as it is final.
-        After an error, of the files or of a function, some of the text is written. The output's `write` must write all
-        of its argument, as every buffered file does.
+        """Copies a file to another one, with each match replaced as by `sub`. The file is read as by `finditer_stream`;
+        text is written once no match can begin in it any more. After an error, of the files or of a function, some of
+        the text is written. The output's `write` must write all of its argument, as every buffered file does.
 
         >>> from io import StringIO
         >>> Search(["cat", "dog"]).sub_stream(StringIO("cat and dog"), out := StringIO(), ["dog", "cat"])

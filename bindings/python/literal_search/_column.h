@@ -176,7 +176,7 @@ static bool goes_alone(const Prepared *self, const Column *column, const uint8_t
     bool is_wide = false;
     for (size_t i = 0; self->whole_words && column->is_str && i < len && !is_wide; i++)
         is_wide = text[i] >= 0x80;
-    return len > SHORT || is_wide || (self->whole_words && len > word_len(self));
+    return len > SHORT || is_wide;
 }
 
 /* The same by the call for one text. */

@@ -339,15 +339,16 @@ static PyObject *iterator_of(Prepared *self, PyObject *const *given, Py_ssize_t 
 
 PyDoc_STRVAR(finditer_doc, "finditer($self, /, text, start=0, end=None)\n--\n\n"
 "Yields the matches that `findall` lists. From this call on, even before the first match, until the iterator is at\n"
-"its end or gone, the text can be neither resized nor closed. Some thousands of matches are found ahead: do not write\n"
-"to the text in the meantime.");
+"its end or gone, the text can be neither resized nor closed. Up to some thousands of matches are found ahead: do not\n"
+"write to the text in the meantime.");
 
 static PyObject *search_finditer(PyObject *self, PyObject *const *given, Py_ssize_t count, PyObject *names) {
     return iterator_of((Prepared *)self, given, count, names, false);
 }
 
 PyDoc_STRVAR(finditer_overlapping_doc, "finditer_overlapping($self, /, text, start=0, end=None)\n--\n\n"
-"Yields the occurrences that `find_overlapping` lists, and holds the text like `finditer`.");
+"Yields the occurrences that `find_overlapping` lists, and holds the text like `finditer`. It finds some ten thousands\n"
+"ahead, or more with long patterns.");
 
 static PyObject *search_finditer_overlapping(PyObject *self, PyObject *const *given, Py_ssize_t count, PyObject *names) {
     return iterator_of((Prepared *)self, given, count, names, true);
@@ -414,10 +415,10 @@ static PyObject *search_split(PyObject *self, PyObject *const *given, Py_ssize_t
 }
 
 /* What is wanted of a part of a text, as _stream.py says. */
-enum { MATCHES, COUNT, REPLACED };
+enum { MATCHES, COUNT, REPLACED, OCCURRENCES };
 
 static PyObject *wanted_of(Walk *walk, int wanted, PyObject *replacement) {
-    if (wanted == MATCHES)
+    if (wanted == MATCHES || wanted == OCCURRENCES)
         return listed(walk, LARGEST_PAGE);
     if (wanted == COUNT)
         return counted(walk);
@@ -430,7 +431,7 @@ static PyObject *wanted_of(Walk *walk, int wanted, PyObject *replacement) {
 PyDoc_STRVAR(so_far_doc, "_so_far($self, part, start, before, more, wanted, replacement, /)\n--\n\n"
 "The known answer for part[start:], where `before` counts the text before the part, and more may follow: the wanted\n"
 "answer, the offset in the part up to which it holds, and whether no more is known. It lists some thousands of\n"
-"matches at once.");
+"matches at once. Occurrences are known that end in the part; those of part[start:] end after its start.");
 
 static PyObject *search_so_far(PyObject *of, PyObject *given) {
     PyObject *part, *start, *replacement, *answer;
@@ -438,11 +439,9 @@ static PyObject *search_so_far(PyObject *of, PyObject *given) {
     int more, wanted;
     Walk walk;
     if (!PyArg_ParseTuple(given, "OOnpiO:_so_far", &part, &start, &before, &more, &wanted, &replacement) ||
-        walk_begin(&walk, (Prepared *)of, false, (PyObject *const[3]){part, start}))
+        walk_begin(&walk, (Prepared *)of, wanted == OCCURRENCES, (PyObject *const[3]){part, start}))
         return NULL;
-    walk.is_part = true;
-    walk.more = more;
-    walk.before = (size_t)before;
+    walk_in_part(&walk, (size_t)before, more);
     answer = wanted_of(&walk, wanted, replacement);
     if (answer)
         answer = Py_BuildValue("(NnO)", answer, (Py_ssize_t)searched_to(&walk), walk.is_done ? Py_True : Py_False);
@@ -521,8 +520,9 @@ static PyTypeObject matches_type = {
 
 /* ---- How a searcher begins ---- */
 
-/* An array that was kept, if it is whole, and for as many patterns, of which the longest has as many bytes. */
-static PyObject *checked(PyObject *kept, const Pieces *pieces) {
+/* An array that was kept, if it is whole, and for the searcher's kind and as many patterns, of which the longest has as
+ * many bytes. */
+static PyObject *checked(PyObject *kept, const Prepared *self) {
     size_t len;
     const uint32_t *words = words_of(kept, &len);
     literal_info info = {0};
@@ -530,7 +530,8 @@ static PyObject *checked(PyObject *kept, const Pieces *pieces) {
     int32_t status = is_cut ? LITERAL_DAMAGED : literal_check_prepared(words, len);
     if (status == LITERAL_OK)
         status = literal_prepared_info(words, len, &info);
-    if (status != LITERAL_OK || info.patterns != pieces->count || info.longest != pieces->longest) {
+    if (status != LITERAL_OK || info.kind != kind_for(self) || info.patterns != self->pieces.count ||
+        info.longest != self->pieces.longest) {
         refuse(LITERAL_DAMAGED);
         return NULL;
     }
@@ -592,7 +593,7 @@ static PyObject *search_prepare(PyObject *of, PyObject *given) {
         new.takes = TAKES_FOLDED;
         literal_fold(new.pieces.bytes, new.pieces.len);
     }
-    new.prepared = kept == Py_None ? prepared_for(&new, &new.pieces, false) : checked(kept, &new.pieces);
+    new.prepared = kept == Py_None ? prepared_for(&new, &new.pieces, false) : checked(kept, &new);
     if (new.prepared && self->takes != NOT_PREPARED) {
         Py_CLEAR(new.prepared);
         PyErr_SetString(PyExc_RuntimeError, "a searcher never changes: make another one");

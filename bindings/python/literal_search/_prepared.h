@@ -105,6 +105,11 @@ static bool are_ascii(const Pieces *pieces) {
     return all < 0x80;
 }
 
+/* The kind of match that a searcher's array is prepared for: whole words are found by the longest. */
+static uint32_t kind_for(const Prepared *self) {
+    return self->whole_words ? LITERAL_LEFTMOST_LONGEST : (uint32_t)self->kind;
+}
+
 static int32_t prepare(const Prepared *self, const Pieces *pieces, bool for_all, void *words, size_t len,
                        size_t *needed) {
     int32_t status;
@@ -113,9 +118,8 @@ static int32_t prepare(const Prepared *self, const Pieces *pieces, bool for_all,
         status = literal_prepare_overlapping(self->ignore_case, pieces->bytes, pieces->len, pieces->ends, pieces->count,
                                              words, len, needed);
     else
-        status = literal_prepare(self->whole_words ? LITERAL_LEFTMOST_LONGEST : (uint32_t)self->kind,
-                                 self->ignore_case, pieces->bytes, pieces->len, pieces->ends, pieces->count, words, len,
-                                 needed);
+        status = literal_prepare(kind_for(self), self->ignore_case, pieces->bytes, pieces->len, pieces->ends,
+                                 pieces->count, words, len, needed);
     come_back(state);
     return status;
 }
@@ -128,7 +132,8 @@ static size_t likely_len(const Pieces *pieces) {
 }
 
 /* The array of a search for some pieces. How long it is turns out when it is written, so it is written where there is
- * likely room, and once more where that was too little. */
+ * likely room, and once more where that was too little. These bytes are written into, but Python shares only objects of
+ * one byte or none, and this one has thousands. */
 static PyObject *prepared_for(const Prepared *self, const Pieces *pieces, bool for_all) {
     size_t needed = likely_len(pieces);
     PyObject *prepared = NULL;

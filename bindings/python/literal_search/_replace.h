@@ -9,7 +9,7 @@
 #include "_walk.h"
 
 /* What is written of an answer: on the stack while it is short, and then into an object, which becomes the answer if
- * that is bytes, or a str of ASCII. */
+ * that is bytes, or a str of ASCII. The object is always long: Python shares those of one byte or none. */
 typedef struct {
     uint8_t *bytes, first[512];
     size_t len, room, likely; /* (how long it is likely to become) */
@@ -96,9 +96,13 @@ static int out_add_str(Out *out, PyObject *str) {
 
 /* What was written, as str or bytes. */
 static PyObject *written(Out *out) {
+    const char *bytes = (const char *)out->bytes;
+    Py_ssize_t len = (Py_ssize_t)out->len;
     PyObject *answer;
     if (out->is_str && !out->is_ascii)
-        return PyUnicode_DecodeUTF8((const char *)out->bytes, (Py_ssize_t)out->len, "surrogatepass");
+        return PyUnicode_DecodeUTF8(bytes, len, "surrogatepass");
+    if (!out->of)
+        return out->is_str ? PyUnicode_DecodeASCII(bytes, len, NULL) : PyBytes_FromStringAndSize(bytes, len);
     if (out_resize(out, out->len))
         return NULL;
     answer = out->of;
@@ -114,9 +118,7 @@ static PyObject *plain_bytes(PyObject *of, const char *name) {
     if (PyObject_CheckBuffer(of)) {
         if (PyObject_GetBuffer(of, &buffer, PyBUF_FULL_RO))
             return NULL;
-        PyObject *bytes = has_objects(buffer.format) ? NULL : PyBytes_FromStringAndSize(NULL, buffer.len);
-        if (bytes && PyBuffer_ToContiguous(PyBytes_AS_STRING(bytes), &buffer, buffer.len, 'C'))
-            Py_CLEAR(bytes);
+        PyObject *bytes = has_objects(buffer.format) ? NULL : PyBytes_FromObject(of);
         PyBuffer_Release(&buffer);
         if (bytes || PyErr_Occurred())
             return bytes;

@@ -29,7 +29,7 @@ typedef struct {
     PyObject *of;     /* the text, or NULL once it is given back */
     Py_buffer buffer; /* its buffer, unless it is a str */
     PyObject *encoded; /* the bytes of a str with a lone surrogate, or NULL */
-    PyObject *folded;  /* the folded bytes of a str, or NULL */
+    uint8_t *folded;   /* the folded bytes of a str, or NULL */
     uint8_t *sides;    /* those that count next to a whole word, or NULL for those that are searched */
     Place made;        /* up to where the sides are made */
     const uint8_t *bytes, *shown; /* those that are searched, and those of the text itself: two arrays if it is folded */
@@ -94,16 +94,19 @@ static void come_back(PyThreadState *state) {
         PyEval_RestoreThread(state);
 }
 
-/* Searches a folded copy of the text. */
+/* Searches a folded copy of the text. Its memory is no object of Python: an object may be shared, as each of one byte
+ * is. */
 static int fold_copy(Text *text) {
-    text->folded = PyBytes_FromStringAndSize((const char *)text->shown, (Py_ssize_t)text->len);
-    if (!text->folded)
+    text->folded = PyMem_Malloc(text->len);
+    if (!text->folded) {
+        PyErr_NoMemory();
         return -1;
-    uint8_t *bytes = (uint8_t *)PyBytes_AS_STRING(text->folded);
+    }
     PyThreadState *state = let_others_run(text->len);
-    literal_fold(bytes, text->len);
+    memcpy(text->folded, text->shown, text->len);
+    literal_fold(text->folded, text->len);
     come_back(state);
-    text->bytes = bytes;
+    text->bytes = text->folded;
     return 0;
 }
 
@@ -120,7 +123,7 @@ static int hold_str(Text *text, PyObject *of, bool folds) {
         return -1;
     text->len = (size_t)len;
     text->is_wide = len != PyUnicode_GET_LENGTH(of);
-    if (folds && fold_copy(text)) {
+    if (folds && text->is_wide && fold_copy(text)) {
         Py_CLEAR(text->encoded);
         return -1;
     }
@@ -131,8 +134,8 @@ static int hold_str(Text *text, PyObject *of, bool folds) {
 /* Holds a text, of the type that is taken. */
 static int hold(Text *text, Takes takes, PyObject *of) {
     bool is_str = PyUnicode_Check(of);
-    text->of = text->buffer.obj = text->encoded = text->folded = NULL;
-    text->sides = NULL;
+    text->of = text->buffer.obj = text->encoded = NULL;
+    text->folded = text->sides = NULL;
     text->is_str = is_str;
     text->is_wide = false;
     if (takes == NOT_PREPARED)
@@ -151,9 +154,9 @@ static void give_back(Text *text) {
     if (text->buffer.obj)
         PyBuffer_Release(&text->buffer);
     Py_CLEAR(text->encoded);
-    Py_CLEAR(text->folded);
+    PyMem_Free(text->folded);
     PyMem_Free(text->sides);
-    text->sides = NULL;
+    text->folded = text->sides = NULL;
     Py_CLEAR(text->of);
 }
 

@@ -6,6 +6,8 @@
 #define PY_SSIZE_T_CLEAN
 #include <Python.h>
 
+#include <time.h>
+
 #include "_match.h"
 #include "_prepared.h"
 #include "_text.h"
@@ -14,9 +16,10 @@
 enum {
     PIECE = 1 << 20,      /* bytes of a piece, unless the longest pattern is much longer */
     FIRST_PAGE = 32,      /* room for so many matches at first */
-    LARGEST_PAGE = 4096,  /* and for so many later */
-    READ_AHEAD = 1 << 22, /* bytes of the longest pattern, summed over the matches of a page */
+    LARGEST_PAGE = 4096,  /* and for so many later, or for more with a long pattern */
+    GROWTH = 8,           /* then for so many times as many as in the page before */
     WORDS_AHEAD = 1 << 27, /* bytes looked up for whole words, at most, in a call where they are frequent */
+    MOMENT = 100000000,   /* nanoseconds: after a piece with whole words that takes longer the next one is shorter */
     TAIL = 1 << 9,        /* so many bytes in front of a piece tell whether a long pattern may have begun */
     MOST_ROOM = 1 << 15   /* room for so many occurrences, unless a page would go back further than it goes on */
 };
@@ -29,6 +32,7 @@ typedef struct {
     bool for_all, is_done; /* (done: nothing is left to be searched) */
     bool is_part, more;    /* whether the text is a part of one that is read; whether more may follow it */
     size_t before;         /* how much came before this part, as offsets count */
+    size_t len;            /* how many bytes the next piece has */
     size_t start, at, end;
     Place place; /* how far offsets are counted */
     literal_match *matches, first[FIRST_PAGE];
@@ -38,10 +42,9 @@ typedef struct {
 /* ---- How far a call of the library goes ---- */
 
 /* In how many bytes whole words are looked for in a moment, however many patterns begin at each: for one the library may
- * look up as many bytes as the square of the longest pattern. */
+ * look up one byte more than the longest pattern has. */
 static size_t word_len(const Prepared *search) {
-    size_t longest = search->pieces.longest + 1;
-    return WORDS_AHEAD / longest / longest + 1;
+    return WORDS_AHEAD / (search->pieces.longest + 1) + 1;
 }
 
 /* How many bytes a search goes on at once. After them a call reads as many as the longest pattern has, or before them
@@ -52,6 +55,44 @@ static size_t piece_len(const Prepared *search) {
     if (search->whole_words && least < len)
         len = word_len(search) < least ? least : word_len(search) < len ? word_len(search) : len;
     return len;
+}
+
+/* How few bytes a piece with whole words may have. Behind it as many are searched, too, as the longest pattern has, so
+ * shorter pieces would hardly take less time. */
+static size_t least_len(const Prepared *search) {
+    return search->pieces.longest / 4 + 1;
+}
+
+/* How many bytes the first piece has: with whole words few, since the text decides how long each byte takes. */
+static size_t first_len(const Prepared *search) {
+    size_t most = piece_len(search);
+    if (!search->whole_words)
+        return most;
+    size_t len = word_len(search), least = least_len(search);
+    len = len < least ? least : len;
+    return len < most ? len : most;
+}
+
+static int64_t nanoseconds(void) {
+    struct timespec now;
+    clock_gettime(CLOCK_MONOTONIC, &now);
+    return now.tv_sec * INT64_C(1000000000) + now.tv_nsec;
+}
+
+/* When a piece begins, or 0 if the length of the next one does not depend on it, or there is no next one. */
+static int64_t begin_piece(const Prepared *search, bool is_last) {
+    return search->whole_words && !is_last ? nanoseconds() : 0;
+}
+
+/* How many bytes the next piece has, after one of `len` bytes that began at a time and ends now. */
+static size_t next_len(const Prepared *search, size_t len, int64_t began) {
+    if (began == 0)
+        return len;
+    size_t least = least_len(search), most = piece_len(search);
+    int64_t took = nanoseconds() - began;
+    if (took > MOMENT)
+        return len / 2 > least ? len / 2 : least;
+    return took > MOMENT / 4 ? len : len * 2 < most ? len * 2 : most;
 }
 
 /* Where the next piece of the bytes between `at` and `end` ends. What is found in it is what the whole text has, since
@@ -70,21 +111,18 @@ static size_t cut_piece(const Prepared *search, size_t len, size_t at, size_t en
     return *piece_end == end ? end : cut;
 }
 
-/* How many matches to find at once: fewer with long patterns, since with one of more than 1,024 bytes the library looks
- * up to 18 times as far after each match, and for a whole word even farther. */
-static size_t most_matches(const Prepared *search, size_t wanted) {
-    size_t most = READ_AHEAD / (search->pieces.longest + 1);
-    if (search->whole_words && word_len(search) < most)
-        most = word_len(search);
-    return most < 2 ? 1 : most < wanted ? most : wanted;
+/* How many matches to find at once, where there are many. Each page looks up at least twice as many bytes as the longest
+ * pattern has. So with a long one it has more matches, and if it is full, it is at least a quarter as long as that
+ * pattern. */
+static size_t most_matches(const Walk *walk) {
+    size_t longest = walk->search->pieces.longest;
+    return longest / 4 > LARGEST_PAGE ? longest / 4 : LARGEST_PAGE;
 }
 
-/* Whether nothing is found: 0, or -1 with an error. No search keeps as many bytes as the longest pattern has, unless it
- * is damaged: then it might never come to an end. */
-static int none_found(const Prepared *search, int32_t status, size_t kept) {
-    if (status == LITERAL_NONE && kept > 0 && kept >= search->pieces.longest)
-        status = LITERAL_DAMAGED;
-    return status == LITERAL_NONE ? 0 : refuse(status);
+/* Whether a search may keep so many bytes of a piece. None keeps as many as the longest pattern has, unless it is
+ * damaged: then it might never come to an end. */
+static bool may_keep(const Prepared *search, size_t kept) {
+    return kept == 0 || kept < search->pieces.longest;
 }
 
 /* Whether matches lie one after another between two places. It is so, unless the prepared search is damaged. */
@@ -111,8 +149,8 @@ static int find_first(const Prepared *search, const Text *text, size_t at, size_
         come_back(state);
         if (status == LITERAL_OK)
             return 1;
-        if (none_found(search, status, piece_end - at))
-            return -1;
+        if (status != LITERAL_NONE || !may_keep(search, piece_end - at))
+            return refuse(status == LITERAL_NONE ? LITERAL_DAMAGED : status);
         if (piece_end == end)
             return 0;
         if (PyErr_CheckSignals())
@@ -123,17 +161,19 @@ static int find_first(const Prepared *search, const Text *text, size_t at, size_
 /* Finds the first whole word between two places, as find_first does. The library is handed more than the piece, since
  * what is next to a word counts. If sides are to be made, the first pieces are short, so that few are. */
 static int find_first_word(const Prepared *search, Text *text, size_t at, size_t end, literal_match *found) {
-    size_t longest = search->pieces.longest, words_len, piece_end;
-    size_t len = !text->sides ? piece_len(search) : SHORT > longest ? SHORT : longest;
+    size_t words_len, piece_end, len = first_len(search);
     const uint32_t *words = words_of(search->prepared, &words_len);
-    for (; at < end; len *= 2) {
-        len = len < piece_len(search) ? len : piece_len(search);
+    if (text->sides && len > SHORT)
+        len = SHORT > least_len(search) ? SHORT : least_len(search);
+    while (at < end) {
         size_t cut = cut_piece(search, len, at, end, &piece_end);
         PyThreadState *state = let_others_run(piece_end - at);
+        int64_t began = begin_piece(search, cut == end);
         make_sides(text, piece_end);
         int32_t status = literal_find_word_by_sides_in((uint32_t)search->kind, words, words_len, text->bytes,
                                                        handed_len(text), text->sides, text->sides ? handed_len(text) : 0,
                                                        at, piece_end, found);
+        len = next_len(search, len, began);
         come_back(state);
         if (status != LITERAL_OK && status != LITERAL_NONE)
             return refuse(status);
@@ -186,12 +226,22 @@ static int walk_begin(Walk *walk, Prepared *search, bool for_all, PyObject *cons
     walk->for_all = for_all;
     walk->is_part = walk->more = false;
     walk->before = 0;
+    walk->len = first_len(search);
     walk->start = walk->at = walk->place.byte;
     walk->is_done = walk->at == walk->end;
     walk->matches = walk->first;
-    walk->room = walk->wanted = for_all ? FIRST_PAGE : most_matches(search, FIRST_PAGE);
+    walk->room = walk->wanted = FIRST_PAGE;
     walk->written = walk->given = 0;
     return 0;
+}
+
+/* Says that the text is a part of one that is read: how much came before, and whether more may follow. Of all that
+ * occurs in it what ends behind its start is searched for, wherever in the part that begins. */
+static void walk_in_part(Walk *walk, size_t before, bool more) {
+    walk->is_part = true;
+    walk->start = 0;
+    walk->before = before;
+    walk->more = more;
 }
 
 static void walk_end(Walk *walk) {
@@ -218,18 +268,22 @@ static int walk_widen(Walk *walk) {
     return 0;
 }
 
-/* Takes over so many matches, behind which the search goes on at a place. */
+/* Takes over so many matches, behind which the search goes on at a place. After a large page that is full the next one
+ * is larger, if a pattern is long. */
 static void take_matches(Walk *walk, size_t count, size_t at, bool is_done) {
     walk->at = at;
     walk->is_done = is_done;
     walk->written = count;
     walk->given = 0;
-    if (count > 0 && walk->room < LARGEST_PAGE)
-        walk->wanted = most_matches(walk->search, LARGEST_PAGE);
+    if (count > 0) {
+        size_t most = most_matches(walk), more = walk->room < LARGEST_PAGE ? LARGEST_PAGE : GROWTH * count;
+        if (walk->room < more)
+            walk->wanted = more < most ? more : most;
+    }
 }
 
 /* Takes over what the library wrote of a piece, up to the cut. */
-static int take_page(Walk *walk, const literal_page *page, size_t cut, size_t piece_end) {
+static int take_words(Walk *walk, const literal_page *page, size_t cut, size_t piece_end) {
     size_t count = page->written, at = walk->at, known;
     if (count > walk->room || (count == 0 && !page->is_last) ||
         !are_in_order(walk->matches, count, at, piece_end))
@@ -246,62 +300,54 @@ static int take_page(Walk *walk, const literal_page *page, size_t cut, size_t pi
     return 0;
 }
 
-/* Finds the matches of the next piece of a text, as many as there is room for, in one call. */
-static int matches_of_piece(Walk *walk) {
+/* Finds the whole words of the next piece of a text, as many as there is room for, in one call. */
+static int words_of_piece(Walk *walk) {
     size_t words_len, piece_end;
-    size_t cut = cut_piece(walk->search, piece_len(walk->search), walk->at, walk->end, &piece_end);
+    size_t cut = cut_piece(walk->search, walk->len, walk->at, walk->end, &piece_end);
     const uint32_t *words = words_of(walk->search->prepared, &words_len);
     Text *text = &walk->text;
     literal_page page;
-    int32_t status;
     PyThreadState *state = let_others_run(piece_end - walk->at);
+    int64_t began = begin_piece(walk->search, cut == walk->end);
     make_sides(text, piece_end);
-    if (walk->search->whole_words)
-        status = literal_find_all_words_by_sides_in((uint32_t)walk->search->kind, words, words_len, text->bytes,
-                                                    handed_len(text), text->sides,
-                                                    text->sides ? handed_len(text) : 0, walk->at,
-                                                    piece_end, walk->matches, walk->room, &page);
-    else
-        status = literal_find_all_in(words, words_len, text->bytes, text->len, walk->at, piece_end, walk->matches,
-                                     walk->room, &page);
+    int32_t status = literal_find_all_words_by_sides_in((uint32_t)walk->search->kind, words, words_len, text->bytes,
+                                                        handed_len(text), text->sides,
+                                                        text->sides ? handed_len(text) : 0, walk->at, piece_end,
+                                                        walk->matches, walk->room, &page);
+    walk->len = next_len(walk->search, walk->len, began);
     come_back(state);
-    return status == LITERAL_OK ? take_page(walk, &page, cut, piece_end) : refuse(status);
+    return status == LITERAL_OK ? take_words(walk, &page, cut, piece_end) : refuse(status);
 }
 
-/* The same one after another: of a text that is read, of which the library tells what stands whatever follows; and
- * where there is room for one, since a page of one would look for the next too. */
-static int matches_one_by_one(Walk *walk) {
-    size_t words_len, at = walk->at, count = 0, piece_end = end_of_piece(walk->search, at, walk->end);
+/* Finds the matches of the next piece that stand whatever follows it, as many as there is room for, in one call. */
+static int matches_of_piece(Walk *walk) {
+    size_t words_len, piece_end = end_of_piece(walk->search, walk->at, walk->end);
     const uint32_t *words = words_of(walk->search->prepared, &words_len);
     bool more = walk->more || piece_end < walk->end;
-    int32_t status = LITERAL_OK;
-    PyThreadState *state = let_others_run(piece_end - at);
-    while (count < walk->room && status == LITERAL_OK) {
-        status = literal_find_so_far_in(words, words_len, walk->text.bytes, piece_end, at, more, &walk->matches[count],
-                                        &at);
-        count += status == LITERAL_OK;
-    }
+    literal_page page;
+    PyThreadState *state = let_others_run(piece_end - walk->at);
+    int32_t status = literal_find_all_so_far_in(words, words_len, walk->text.bytes, piece_end, walk->at, more,
+                                                walk->matches, walk->room, &page);
     come_back(state);
-    if (status != LITERAL_OK && none_found(walk->search, status, piece_end - at))
-        return -1;
-    take_matches(walk, count, at, status == LITERAL_NONE && piece_end == walk->end);
+    if (status != LITERAL_OK)
+        return refuse(status);
+    if (!are_in_order(walk->matches, page.written, walk->at, page.next) ||
+        (page.is_last && !may_keep(walk->search, piece_end - page.next)))
+        return refuse(LITERAL_DAMAGED);
+    take_matches(walk, page.written, page.next, page.is_last && piece_end == walk->end);
     return 0;
 }
 
 /* Finds the matches of the next piece. */
 static int page_of_matches(Walk *walk) {
-    bool is_alone = walk->is_part || (walk->room == 1 && !walk->search->whole_words);
-    return is_alone ? matches_one_by_one(walk) : matches_of_piece(walk);
+    return walk->search->whole_words ? words_of_piece(walk) : matches_of_piece(walk);
 }
 
-/* Whether the next piece can be counted alone: it is the last one, or no match reaches over its end. With patterns of
- * more than 1,024 bytes, and with whole words in many bytes, a call might take too long. */
+/* Whether the next piece can be counted alone: it is the last one, or no match reaches over its end. */
 static bool is_countable(const Walk *walk) {
     const Prepared *search = walk->search;
-    size_t longest = search->pieces.longest, len = walk->end - walk->at;
-    if (walk->is_part || longest > 1024 || (search->whole_words && longest > 1 && len > word_len(search)))
-        return false;
-    return longest <= 1 || end_of_piece(search, walk->at, walk->end) == walk->end;
+    bool is_last = end_of_piece(search, walk->at, walk->end) == walk->end;
+    return !walk->is_part && (is_last || search->pieces.longest <= 1);
 }
 
 /* Counts the matches of the next piece. */
@@ -440,12 +486,11 @@ static PyObject *match_at(const Prepared *search, const Text *text, Place *place
 /* The same of a part of a text. It is not held, so the match has a copy of what was matched. */
 static PyObject *match_of_part(Walk *walk, const literal_match *found) {
     PyObject *of = walk->search->values ? walk->search->values : walk->search->patterns;
-    Place start = walk->place;
-    offset_of(&walk->text, &start, found->start);
-    walk->place = start;
-    offset_of(&walk->text, &walk->place, found->end);
-    PyObject *group = part_of(&walk->text, start, walk->place);
-    size_t shown[SHOWN] = {found->pattern, walk->before + start.offset, walk->before + walk->place.offset};
+    size_t shown[SHOWN];
+    show(&walk->text, &walk->place, found, shown);
+    PyObject *group = part_of(&walk->text, (Place){found->start, shown[START]}, (Place){found->end, shown[END]});
+    shown[START] += walk->before;
+    shown[END] += walk->before;
     PyObject *match = group ? match_of_its_own(shown, group, PyTuple_GET_ITEM(of, (Py_ssize_t)found->pattern)) : NULL;
     Py_XDECREF(group);
     return match;

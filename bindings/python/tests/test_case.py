@@ -10,7 +10,13 @@ from pathlib import Path
 
 from literal_search import Kind, Search
 
+from shared import tearDownModule
+
 TEXT = "Это ПРИМЕР, Été ÉTÉ; Σίσυφος."
+
+
+class Name(str):
+    """A subclass, as the strings of numpy are. Python has its characters elsewhere than those of a str."""
 
 
 class Case(unittest.TestCase):
@@ -31,6 +37,17 @@ class Case(unittest.TestCase):
         self.assertEqual(self.searcher.sub(["пр", "an", ""], TEXT), "Это пр, an an; υφος.")
         self.assertEqual(self.searcher.split("ÄÉtÉÖпримерΩ"), ["Ä", "Ö", "Ω"])
         self.assertEqual(self.searcher.sub("-", "ÄÖ"), "ÄÖ")
+
+    def test_no_text_changes(self):
+        """Nor does an object of one character or byte, which Python shares, also where an answer is one."""
+        for character in map(chr, range(256)):
+            for text in (character, Name(character), Name(character * 2)):
+                for call in (self.searcher.find, self.searcher.count, self.searcher.findall_strings,
+                             self.searcher.find_overlapping, self.searcher.split, lambda it: self.searcher.sub("", it)):
+                    call(text)
+                self.assertEqual(Search(["--"]).sub("", f"--{character}"), character)
+                self.assertEqual(Search([b"--", text.encode()]).sub(bytearray(b"A"), text.encode()), b"A")
+        tearDownModule()
 
     def test_streams(self):
         self.assertEqual(self.searcher.count_stream(io.StringIO(TEXT * 9999)), 4 * 9999)

@@ -6,6 +6,8 @@ import unittest
 
 from literal_search import Search
 
+from shared import tearDownModule
+
 RELEASE = ctypes.CFUNCTYPE(None, ctypes.c_void_p)
 DESTROY, DESTROYED = ctypes.PYFUNCTYPE(None, ctypes.c_void_p), []
 NEW_CAPSULE = ctypes.pythonapi.PyCapsule_New
@@ -100,9 +102,7 @@ class Columns(unittest.TestCase):
             def count(self, text):
                 return "alone"
 
-        column, long = Column(["a", "a" * 5000], b"u"), " ".join(301 * "a")
-        self.assertEqual(Alone(["a"]).count_each(column), [1, "alone"])
-        self.assertEqual(Alone([long], whole_words=True).count_each(Column([long, "a"], b"u")), ["alone", 0])
+        self.assertEqual(Alone(["a"]).count_each(Column(["a", "a" * 5000], b"u")), [1, "alone"])
 
     def test_random_texts(self):
         chance = random.Random(3)

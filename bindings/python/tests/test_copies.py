@@ -13,6 +13,8 @@ from unittest import mock
 import literal_search
 from literal_search import Kind, Search
 
+from shared import tearDownModule
+
 WORDS = [b"apple", b"maple", b"Snapple"]
 FIRST, LONGEST = Kind.LEFTMOST_FIRST, Kind.LEFTMOST_LONGEST
 
@@ -166,12 +168,13 @@ class Files(unittest.TestCase):
                 Search.load(self.path)
 
     def test_a_damaged_search_in_a_sound_file(self):
-        """The sum of the file is right, and the library finds what is wrong; or the search is for other patterns."""
+        """The sum of the file is right, and the library finds what is wrong; or the search is for other patterns, or of
+        another kind."""
         searcher = Search([b"ab"])
         whole = literal_search._written(searcher)
         places = len(whole) - 1, len(whole) - len(searcher._prepared)
         files = [whole[:at] + bytes([whole[at] ^ 1]) + whole[at + 1 :] for at in places]
-        for other in (Search([b"ab", b"cd"]), Search([b"abc"])):
+        for other in (Search([b"ab", b"cd"]), Search([b"abc"]), Search([b"ab"], LONGEST)):
             given = {"patterns": (b"ab",), "kind": FIRST, "ignore_case": False, "whole_words": False}
             files.append(literal_search._written(SimpleNamespace(_prepared=other._prepared, **given)))
         for damaged in files:

@@ -6,6 +6,8 @@ import unittest
 from importlib.util import find_spec
 from pathlib import Path
 
+from shared import tearDownModule
+
 EXAMPLE = Path(__file__).parent.parent / "examples/dask_search.py"
 LIMIT = 120  # seconds
 

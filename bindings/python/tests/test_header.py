@@ -10,6 +10,7 @@ TOP = Path(__file__).resolve().parents[3]
 sys.path.append(str(TOP / "bindings/c"))
 
 import library
+from shared import tearDownModule
 
 SOURCES = sorted((TOP / "crates/literal_c/src").glob("*.rt"))
 EXPORTS = re.sub(r"//.*", "", "".join(it.read_text("utf-8") for it in SOURCES))

@@ -17,9 +17,11 @@ from collections import deque
 from concurrent.futures import ThreadPoolExecutor
 from contextlib import contextmanager, suppress
 from io import BytesIO, StringIO
-from itertools import chain, islice
+from itertools import chain, islice, product
 
 from literal_search import Search
+
+from shared import tearDownModule
 
 TEXT = b"Nobody likes maple in their apple flavored Snapple."
 WORDS = [b"apple", b"maple", b"Snapple"]
@@ -194,13 +196,13 @@ class Iterators(unittest.TestCase):
         self.assertEqual(list(matches), [])
 
     def test_how_far_ahead_matches_are_found(self):
-        """Some thousands; with a long pattern a few, since the search may look as far ahead behind each."""
-        for longest, most in ((1 << 22, 1), (1 << 18, 15)):
-            text = bytearray(b"a" * 100)
+        """Some thousands; with a long pattern more, so that few bytes are looked up again."""
+        for longest, most in ((1000, 1 << 12), (1 << 15, 1 << 13)):
+            text = bytearray(b"a" * (1 << 14))
             matches = Search([b"a" * longest + b"b", b"a"]).finditer(text)
-            next(matches)
-            text[1:99] = b"x" * 98
-            self.assertEqual([it.start for it in matches], [*range(1, most), 99])
+            deque(islice(matches, 32 + 4096 + 1), 0)  # (what the pages before have, and one more)
+            text[:] = bytes(len(text))
+            self.assertEqual(sum(1 for _ in matches), most - 1)
         searcher = Search([b"a"])
         for call, most in ((searcher.finditer, 1 << 12), (searcher.finditer_overlapping, 1 << 15)):
             text = bytearray(b"a" * (3 * most))
@@ -319,6 +321,15 @@ class Signals(unittest.TestCase):
             self.fail("there was no signal")
         return answered
 
+    def time_until_ended(self, call, given):
+        """The processor's time until a signal has ended a call, which it gets after 0.05 seconds."""
+        self.addCleanup(signal.signal, signal.SIGPROF, signal.signal(signal.SIGPROF, signal.getsignal(signal.SIGINT)))
+        began = time.process_time()
+        with self.assertRaises(Interrupted):
+            signal.setitimer(signal.ITIMER_PROF, 0.05)
+            call(given)
+        return time.process_time() - began
+
     def test_how_far_a_search_goes(self):
         """With a signal that is there when it begins, it reads one piece, and what may be the rest of a match."""
         searcher = Search([b"needle"])
@@ -337,10 +348,26 @@ class Signals(unittest.TestCase):
             text += b"a"  # (it is given back)
 
     def test_between_pages_of_whole_words(self):
-        """Many patterns begin at each word, so few words are found at once."""
-        searcher, text = Search([" ".join(it * "a") for it in range(1, 301)], whole_words=True), "a " * 1000
+        """Many patterns begin at each word, so pieces are shorter."""
+        searcher, text = Search([" ".join(it * "a") for it in range(1, 301)], whole_words=True), "a " * (1 << 18)
         for call in searcher.findall, searcher.count:
             self.assertEqual(self.interrupted(map(call, [text], [Raising()])), [])
+
+    def test_of_nested_words(self):
+        """Many patterns begin at each place, and none is a whole word. A call goes on for some times as long as it
+        searches as many bytes as the longest pattern has."""
+        nested, text = ["-a-" * it + "-" for it in range(1, 401)], "-a-" * (1 << 21)
+        searcher = Search(nested, whole_words=True)
+        began = time.process_time()
+        self.assertEqual(searcher.count(text[: len(nested[-1]) - 1]), 0)
+        most = max(0.2, 6 * (time.process_time() - began))
+        for call, given in product((searcher.find, searcher.count, searcher.findall), (text, text + "é")):
+            self.assertLess(self.time_until_ended(call, given), 0.05 + most)
+
+    def test_in_a_part(self):
+        """Each page of matches looks up some times as many bytes as the long pattern has."""
+        searcher, text = Search([b"a" * (1 << 18) + b"b", b"a"]), b"a" * (1 << 24)
+        self.assertLess(self.time_until_ended(searcher.count_stream, BytesIO(text)), 1)
 
     def test_of_another_thread(self):
         """It waits for a lock, which is released right before the search, so it runs during the search. The text would

@@ -12,6 +12,8 @@ from pathlib import Path
 
 from literal_search import __version__, _native
 
+from shared import tearDownModule
+
 TOP = Path(__file__).resolve().parents[3]
 PACKAGE, BUILT = TOP / "bindings/python", Path(_native.__file__)
 HAS_WHEEL = any(map(importlib.util.find_spec, ("wheel", "setuptools.command.bdist_wheel")))
@@ -81,6 +83,12 @@ class Setup(unittest.TestCase):
         shutil.unpack_archive(wheel, self.room / "unpacked", "zip")
         said = run(sys.executable, "-B", "-c", uses, cwd="/", PYTHONPATH=str(self.room / "unpacked"))
         self.assertEqual(said, (0, f"1 {self.room}/unpacked/literal_search/__init__.py\n"))
+
+
+class Tests(unittest.TestCase):
+    def test_each_file_looks_at_what_python_shares(self):
+        for file in Path(__file__).parent.glob("test_*.py"):
+            self.assertIn("\nfrom shared import tearDownModule\n", file.read_text("utf-8"), file.name)
 
 
 class OlderProcessor(unittest.TestCase):

@@ -8,20 +8,19 @@ import os
 import pickle
 import random
 import re
-import resource
 import sys
 import tempfile
 import time
 import unittest
 from io import StringIO
 from itertools import islice
-from pathlib import Path
 from types import SimpleNamespace
 
 import literal_search
 from literal_search import Kind, Match, Search
 
 import plain
+from shared import tearDownModule
 
 TEXT = b"Nobody likes maple in their apple flavored Snapple."
 WORDS = [b"apple", b"maple", b"Snapple"]
@@ -462,14 +461,16 @@ class Words(unittest.TestCase):
         self.assertEqual(bytes_of.findall("élan".encode()), [(0, 2, 5)])
 
     def test_long_texts(self):
-        # (with a pattern of more than 1,024 bytes each match costs a search of its own, so there are fewer)
-        for words, gap in (([b"ab", b"abc d"], b""), ([b"ab" * 800, b"ab", b"abc d"], b" " * 990)):
-            searcher, count = Search(words, LONGEST, whole_words=True), 2_500_000 // (10 + len(gap))
-            self.assertEqual(searcher.count((b"abc d abx " + gap) * count + b"-ab"), count + 1)
-            text = (b"abx ab_ x " + gap) * count + b"ab"
+        for words in ([b"ab", b"abc d"], [b"ab" * 800, b"ab", b"abc d"]):
+            searcher = Search(words, LONGEST, whole_words=True)
+            self.assertEqual(searcher.count(b"abc d abx " * 250_000 + b"-ab"), 250_001)
+            text = b"abx ab_ x " * 250_000 + b"ab"
             self.assertEqual(searcher.find(text), (words.index(b"ab"), 2_500_000, 2_500_002))
             for cut in range(1_048_570, 1_048_582):
                 self.assertEqual(searcher.findall(b" " * cut + b"abc d"), [(words.index(b"abc d"), cut, cut + 5)])
+        searcher = Search([b"ab", b"cd", b"ab cd"], LONGEST, whole_words=True)
+        for cut in range(1_048_570, 1_048_582):
+            self.assertEqual(searcher.findall(b" " * cut + b"ab cd" + b" " * 64), [(2, cut, cut + 5)])
 
     def test_long_texts_beyond_ascii(self):
         searcher = Search(["abc d", "ab"], whole_words=True)
@@ -523,9 +524,10 @@ class Replacing(unittest.TestCase):
             for count in (1, 5000):
                 self.assertEqual(Search(["ab"]).sub(new, text, count), text.replace("ab", new, count))
                 self.assertEqual(Search(["ab"]).sub(lambda _: new, text, count), text.replace("ab", new, count))
-        for at in (0, 1, 100, 4999):
-            news = iter(["-" if it != at else "é" for it in range(5000)])
-            self.assertEqual(Search(["ab"]).sub(lambda _: next(news), text), "x-" * at + "xé" + "x-" * (4999 - at))
+        for at, new in (0, "-"), (1, "+"), (100, "*"), (4999, "/"):  # (so old memory has none of it)
+            news = iter([new if it != at else "é" for it in range(5000)])
+            wanted = f"x{new}" * at + "xé" + f"x{new}" * (4999 - at)
+            self.assertEqual(Search(["ab"]).sub(lambda _: next(news), text), wanted)
         self.assertEqual(Search(["x", "ab"]).sub(["yz", "é"], text), "yzé" * 5000)
         self.assertEqual(Search(["x", "ab"]).sub(["", ""], text), "")
         self.assertEqual(Search([b"x", b"ab"]).sub([b"", b""], text.encode()), b"")
@@ -766,33 +768,6 @@ class Linear(unittest.TestCase):
             return time.process_time() - began
 
         self.assertLess(min(time_of(long) for _ in range(5)), 6 * min(time_of(short) for _ in range(5)))
-
-
-class RefusedMemory(unittest.TestCase):
-    def test_what_the_library_asks_for(self):
-        """There is room for what the module asks for, and not for the table."""
-        used = int(Path("/proc/self/statm").read_text().split()[0]) * resource.getpagesize()
-        most, hard = resource.getrlimit(resource.RLIMIT_AS)
-        resource.setrlimit(resource.RLIMIT_AS, (used + (96 << 20), hard))
-        self.addCleanup(resource.setrlimit, resource.RLIMIT_AS, (most, hard))
-        with self.assertRaisesRegex(MemoryError, "no memory for a search"):
-            Search([bytes(range(100)) * 10000])
-
-    @unittest.skipUnless("refuse.so" in os.environ.get("LD_PRELOAD", ""), "run by bindings/test")
-    def test_all_requests_refused(self):
-        """By an allocator before the C library's, which refuses while the environment says so."""
-        process, searcher, text = ctypes.CDLL(None), Search(WORDS), b"apple" * 10000
-        of_words, accented = Search(["a"], whole_words=True), "é a" * 10000
-        self.assertEqual(of_words.count(accented), 1)  # (only the last is no part of `aé`)
-        for call in (lambda: Search([b"%d" % it for it in range(2000)]), lambda: searcher.findall(text),
-                     lambda: of_words.find(accented), lambda: of_words.findall(accented)):
-            with self.assertRaises(MemoryError):
-                process.setenv(b"REFUSED_REQUEST", b"0", 1)
-                try:
-                    call()
-                finally:
-                    process.unsetenv(b"REFUSED_REQUEST")
-        self.assertEqual((searcher.count(text), of_words.count(accented)), (10000, 1))
 
 
 if __name__ == "__main__":

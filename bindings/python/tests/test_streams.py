@@ -1,11 +1,21 @@
 """Searches in files: in pieces of any size, in files that fail or do not wait, and how much of a text is kept."""
 import io
+import os
+import queue
 import random
+import tempfile
+import time
 import unittest
+from concurrent.futures import ThreadPoolExecutor
+from contextlib import contextmanager
+from types import SimpleNamespace
 
 from literal_search import Kind, Match, Search, _stream
 
 import plain
+from shared import tearDownModule
+
+LIMIT = 20  # seconds, for what takes no time
 
 
 class Pieces:
@@ -104,6 +114,18 @@ class Files(unittest.TestCase):
         self.assertLess(file.at, 12)
 
 
+    def test_many_short_reads(self):
+        """The time is proportional to their number, with a pattern that is far longer."""
+        for word, text in (b"q" * 60000, b"z" * 120000), ("É" * 60000, "é" * 59999 + "z" + "é" * 59999):
+            searcher, nowhere = Search([word], ignore_case=True), SimpleNamespace(write=lambda _: None)
+            for call in (searcher.finditer_stream, searcher.finditer_overlapping_stream, searcher.count_stream,
+                         lambda file: searcher.sub_stream(file, nowhere, word)):
+                began = time.process_time()
+                answer = call(Pieces(text, 1))
+                self.assertFalse(answer and list(answer))
+                self.assertLess(time.process_time() - began, 2.5)
+
+
 class Occurrences(unittest.TestCase):
     def test_as_in_the_whole_text(self):
         chance = random.Random(8)
@@ -120,20 +142,86 @@ class Occurrences(unittest.TestCase):
                     self.assertEqual([(it.group(), it.value) for it in found], [(it.group(), it.value) for it in wanted])
 
     def test_what_is_kept(self):
-        class Parts(Search):
-            def finditer_overlapping(self, part):
-                self.__dict__.setdefault("parts", []).append(len(part))
-                return super().finditer_overlapping(part)
-
-        searcher = Parts([b"a" * 100, b"b"])
+        searcher = Watched([b"a" * 100, b"b"])
         self.assertEqual(len(list(searcher.finditer_overlapping_stream(Pieces(b"xb" * 1000, 60)))), 1000)
         self.assertEqual((searcher.parts[:3], max(searcher.parts)), ([60, 60 + 120, 99 + 120], 99 + 120))
+
+    def test_more_than_there_is_room_for(self):
+        text, searcher = "äab" * 20000, Search(["äab", "ab", "b"])
+        found = searcher.finditer_overlapping_stream(io.StringIO(text))
+        self.assertEqual(list(found), searcher.find_overlapping(text))
 
     def test_a_file_that_fails(self):
         found = Search(["ab", "b"]).finditer_overlapping_stream(Pieces("xab", 2, OSError("gone")))
         self.assertEqual([next(found), next(found)], [(0, 1, 3), (1, 2, 3)])
         self.assertRaisesRegex(OSError, "gone", next, found)
         self.assertRaises(BlockingIOError, list, Search(["a"]).finditer_overlapping_stream(Pieces("xa", 2, None)))
+
+
+class Pipes(unittest.TestCase):
+    """Files that make a reader wait: if it waits too long, a test closes the pipe."""
+
+    @contextmanager
+    def pipe(self, buffering):
+        """A pipe, with buffers or without, and a thread."""
+        reader, writer = os.pipe()
+        with open(reader, "rb", buffering) as file, ThreadPoolExecutor(1) as pool:
+            try:
+                yield file, lambda part: os.write(writer, part), pool.submit
+            finally:
+                os.close(writer)
+
+    def test_what_is_known_is_given_before_the_next_read_waits(self):
+        """A match as soon as the longest pattern would fit, and an occurrence as soon as it is read, however short reads
+        are."""
+        searcher = Search([b"needle", b"z" * 40])
+        parts = b"needle" + b"." * 24 + b"needle" + b"." * 14, b"." * 14 + b"needle"
+        for buffering in (-1, 0):
+            for call, wanted in ((searcher.finditer_stream, [[0], [30]]),
+                                 (searcher.finditer_overlapping_stream, [[0, 30], [64]])):
+                with self.pipe(buffering) as (file, write, begin):
+                    found = call(file)
+                    for part, starts in zip(parts, wanted):
+                        write(part)
+                        self.assertEqual([begin(next, found).result(LIMIT).start for _ in starts], starts)
+
+    def test_what_is_replaced_is_written_before_the_next_read_waits(self):
+        for buffering in (-1, 0):
+            with self.pipe(buffering) as (file, write, begin):
+                written = queue.Queue()
+                begin(Search([b"needle"]).sub_stream, file, SimpleNamespace(write=written.put), b"pin")
+                for part, wanted in (b"a needle", b"a pin"), (b"-needle", b"-pin"):
+                    write(part)
+                    self.assertEqual(written.get(timeout=LIMIT), wanted)
+
+    def test_a_pipe_that_does_not_wait(self):
+        """It has nothing yet, which is not its end."""
+        for buffering in (-1, 0):
+            with self.pipe(buffering) as (file, write, begin):
+                os.set_blocking(file.fileno(), False)
+                write(b"a needle")
+                found = Search([b"needle"]).finditer_stream(file)
+                self.assertEqual(next(found), (0, 2, 8))
+                self.assertRaises(BlockingIOError, next, found)
+
+    def test_a_file_in_memory_stays_there(self):
+        """One that moves to the disk when it is asked for its number there."""
+        with tempfile.SpooledTemporaryFile() as file:
+            file.write(b"a needle")
+            file.seek(0)
+            self.assertEqual(Search([b"needle"]).count_stream(file), 1)
+            self.assertFalse(file._rolled)
+
+    def test_a_read_of_its_own(self):
+        """It is called, though the class below has another method that reads."""
+        class Lower(io.BytesIO):
+            def read(self, size):
+                return super().read(size).lower()
+
+        changed = io.BufferedReader(io.BytesIO(b"A NEEDLE"))
+        changed.read = Lower(b"A NEEDLE").read
+        for file in Lower(b"A NEEDLE"), changed:
+            self.assertEqual(Search([b"needle"]).count_stream(file), 1)
 
 
 class Refusals(unittest.TestCase):

@@ -13,8 +13,8 @@ pub use crate::settings::Anchored;
 #[cfg(feature = "std")]
 pub use crate::stream::StreamFindIter;
 
-/// A state of an [`Automaton`]. Two states of one automaton are equal if the longest suffixes with which a pattern begins
-/// are, of the bytes that led to them.
+/// A state of an [`Automaton`]. States of one automaton are equal if the bytes that led to them have the same longest
+/// suffix that is a prefix of a pattern.
 ///
 /// The number of a state has 32 bits: unlike in the original, it may be larger than [`PatternID::MAX`], and is no index.
 #[derive(Clone, Copy, Debug, PartialEq, Eq, PartialOrd, Ord, Hash)]
@@ -70,18 +70,14 @@ pub(crate) use sealed::Sealed;
 /// # Ok::<(), Box<dyn std::error::Error>>(())
 /// ```
 pub trait Automaton: Sealed {
-    /// The state before the first byte. The first call builds the array for every occurrence, if the builder did not.
+    /// The state before the first byte. The first call builds the array for every occurrence, if there is none.
     ///
     /// # Errors
     ///
     /// If the kind of match is not [`MatchKind::Standard`], for anchored searches, with
     /// [`StartKind::Anchored`](crate::StartKind::Anchored), or if the array can't be built.
     fn start_state(&self, anchored: Anchored) -> Result<StateID, MatchError> {
-        self.searcher().check(anchored)?;
-        self.searcher().every()?;
-        if anchored.is_anchored() {
-            return Err(MatchError::invalid_input_anchored());
-        }
+        self.searcher().unanchored_every(anchored)?;
         Ok(StateID(START_STATE))
     }
 
@@ -154,12 +150,13 @@ pub trait Automaton: Sealed {
         self.searcher().try_find_overlapping(input.clone(), state)
     }
 
-    /// [`AhoCorasick::try_find_overlapping_iter`].
+    /// [`AhoCorasick::try_find_overlapping_iter`], except that the kind of match is looked at before the
+    /// [`StartKind`](crate::StartKind).
     fn try_find_overlapping_iter<'a, 'h>(
         &'a self,
         input: Input<'h>,
     ) -> Result<FindOverlappingIter<'a, 'h>, MatchError> {
-        self.searcher().try_find_overlapping_iter(input)
+        Ok(FindOverlappingIter::new(self.searcher().every_by_kind(&input)?, &input))
     }
 
     /// [`AhoCorasick::match_kind`].

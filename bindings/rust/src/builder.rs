@@ -1,10 +1,16 @@
 //! The builder of searchers.
 use crate::lazy::Lazy;
 use crate::leftmost::Leftmost;
-use crate::library::Prepared;
 use crate::pieces::Pieces;
 use crate::searcher::Parts;
 use crate::{AhoCorasick, AhoCorasickKind, BuildError, MatchKind, StartKind};
+
+/// With a pattern of more bytes than this, it may take longer to search for each earliest match anew than to pick them
+/// from every occurrence.
+const LONG: usize = 1024;
+
+/// It takes about as long to list an occurrence as to look up so many bytes.
+const OCCURRENCE: usize = 4;
 
 /// Builds searchers.
 ///
@@ -44,7 +50,8 @@ impl AhoCorasickBuilder {
         self
     }
 
-    /// Sets which searches are made: a searcher by [`StartKind::Unanchored`] makes no anchored ones.
+    /// Sets which searches are made: a searcher by [`StartKind::Unanchored`] makes no anchored ones, and one by
+    /// [`StartKind::Anchored`] makes no others.
     pub fn start_kind(&mut self, kind: StartKind) -> &mut AhoCorasickBuilder {
         self.start_kind = kind;
         self
@@ -75,9 +82,9 @@ impl AhoCorasickBuilder {
     ///
     /// # Errors
     ///
-    /// If a pattern is empty, there are more than [`PatternID::LIMIT`](crate::PatternID::LIMIT), memory is refused, or
-    /// the table of the search would have 2^31 entries or more. (If the last request, of some hundred bytes, is refused,
-    /// the program ends, as with Rust's collections.)
+    /// If a pattern is empty, there are more than [`PatternID::LIMIT`](crate::PatternID::LIMIT), memory is refused, the
+    /// table of the search would have 2^31 entries or more, or the processor lacks the instructions that the library
+    /// needs. (If the last request, of some hundred bytes, is refused, the program ends, as with Rust's collections.)
     ///
     /// ```
     /// let error = aho_corasick::AhoCorasick::new(["a", ""]).unwrap_err();
@@ -90,14 +97,11 @@ impl AhoCorasickBuilder {
     {
         let mut pieces = Pieces::new(patterns)?;
         let leftmost = Leftmost::new(self.kind, self.ignore_case, &pieces)?;
-        let (is_standard, every) = (self.kind == MatchKind::Standard, Lazy::new());
-        let is_paged = leftmost.is_fast();
-        if is_standard && !is_paged {
-            every.get_or_try(|| Prepared::overlapping(self.ignore_case, &pieces))?;
-        }
-        // (only where matches may be picked from every occurrence)
-        let most_at_one_end = if is_standard || is_paged { 0 } else { pieces.most_at_one_end(self.ignore_case)? };
-        if !is_standard && is_paged {
+        let (is_standard, longest) = (self.kind == MatchKind::Standard, pieces.longest);
+        // (not if so many patterns can end at one offset that it takes longer to list them)
+        let picks_earliest =
+            !is_standard && longest > LONG && OCCURRENCE * pieces.most_at_one_end(self.ignore_case)? <= longest;
+        if !is_standard && !picks_earliest {
             pieces.drop_bytes();
         }
         Ok(AhoCorasick::of(Parts {
@@ -107,12 +111,11 @@ impl AhoCorasickBuilder {
             ignore_case: self.ignore_case,
             patterns_len: pieces.len(),
             shortest: pieces.shortest,
-            longest: pieces.longest,
+            longest,
             leftmost,
-            is_paged,
-            most_at_one_end,
+            picks_earliest,
             pieces,
-            every,
+            every: Lazy::new(),
         }))
     }
 }

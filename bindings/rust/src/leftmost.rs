@@ -7,9 +7,12 @@ use crate::standard::likely_late;
 use crate::{Match, MatchKind, PatternID, Span};
 use alloc::vec::Vec;
 
-/// The library searches anew after each match if a pattern is longer than this. It is `LEAST` of
-/// `crates/literal_search/src/backward.rt`.
-const LONGEST_FAST: usize = 1024;
+/// How many matches a page has at most, unless a pattern is long.
+const MOST: usize = 1024;
+
+/// For how many bytes of a long pattern a page has a match. Each page looks up at least twice the length of that pattern.
+/// A full page is at least a quarter as long as the pattern, so these are at most eight look-ups for each of its bytes.
+const BYTES_EACH: usize = 4;
 
 pub struct Leftmost {
     prepared: Prepared,
@@ -57,9 +60,9 @@ impl Leftmost {
         }
     }
 
-    /// Whether an iteration looks up few bytes twice.
-    pub fn is_fast(&self) -> bool {
-        self.longest <= LONGEST_FAST
+    /// How many matches a page should have, where there are many.
+    pub fn most(&self) -> usize {
+        MOST.max(self.longest / BYTES_EACH)
     }
 
     #[inline]
@@ -68,15 +71,29 @@ impl Leftmost {
         Some(self.named(found))
     }
 
-    /// Lists the first matches in a span, at most so many, in place of what was in the list.
+    /// Lists the first matches in a span, at most so many, in place of what was in the list. If memory for a large page is
+    /// refused, the page is small.
     pub fn page(&self, haystack: &[u8], span: Span, most: usize, found: &mut Vec<Match>) -> Reached {
-        let reached = self.prepared.page(haystack, span, most, found);
+        let reached = self.prepared.page(haystack, span, granted(most, found), found);
+        self.name_all(found);
+        reached
+    }
+
+    /// The same of the first matches from an offset on that stand whatever follows the haystack, or of all of them if no
+    /// more follows.
+    #[cfg(feature = "std")]
+    pub fn known_page(&self, haystack: &[u8], at: usize, more: bool, found: &mut Vec<Match>) -> Reached {
+        let reached = self.prepared.known_page(haystack, at, more, granted(self.most(), found), found);
+        self.name_all(found);
+        reached
+    }
+
+    fn name_all(&self, found: &mut [Match]) {
         if !self.numbers.is_empty() {
             for found in found {
                 *found = self.named(*found);
             }
         }
-        reached
     }
 
     /// A match with the number of its pattern among all patterns.
@@ -90,5 +107,15 @@ impl Leftmost {
 
     pub fn memory_usage(&self) -> usize {
         self.prepared.memory_usage() + self.numbers.capacity() * core::mem::size_of::<u32>()
+    }
+}
+
+/// How many matches an empty list has room for, where so many are wanted.
+fn granted(most: usize, found: &mut Vec<Match>) -> usize {
+    found.clear();
+    if most <= MOST || found.try_reserve_exact(most).is_ok() {
+        most
+    } else {
+        MOST
     }
 }

@@ -139,7 +139,7 @@ impl Searcher {
     ///
     /// # Panics
     ///
-    /// If the span is none of the haystack.
+    /// Like [`Input::set_span`].
     #[inline]
     pub fn find_in<B: AsRef<[u8]>>(&self, haystack: B, span: Span) -> Option<Match> {
         self.searcher.find(Input::new(haystack.as_ref()).span(span))
@@ -161,7 +161,7 @@ impl Searcher {
         0
     }
 
-    /// How many bytes the searcher takes in memory.
+    /// About how many bytes the searcher takes in memory.
     pub fn memory_usage(&self) -> usize {
         self.searcher.memory_usage()
     }

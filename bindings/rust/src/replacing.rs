@@ -5,7 +5,8 @@ use alloc::string::String;
 use alloc::vec::Vec;
 
 impl AhoCorasick {
-    /// The haystack with each match replaced by the list's item at the number of its pattern.
+    /// The haystack with each match replaced by the list's item at the number of its pattern. A match that cuts a
+    /// character, possible for a pattern that is not UTF-8, stays in the text.
     ///
     /// # Panics
     ///
@@ -81,7 +82,7 @@ impl AhoCorasick {
     /// Appends the haystack to `dst`; the function appends the replacement of each match. Its arguments are the match,
     /// the matched text, and `dst`. It returns whether to go on: after `false` the rest is appended unchanged.
     ///
-    /// A match that cuts a character, possible for a pattern that is not UTF-8, stays in the text.
+    /// A match that cuts a character stays in the text, and the function is not called for it.
     ///
     /// # Panics
     ///

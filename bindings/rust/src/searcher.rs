@@ -3,10 +3,9 @@ use crate::lazy::Lazy;
 use crate::leftmost::Leftmost;
 use crate::library::Prepared;
 use crate::occurrences::{Every, FindOverlappingIter, OverlappingState};
-use crate::picking::Picking;
 use crate::pieces::Pieces;
 #[cfg(feature = "std")]
-use crate::stream::{Room, MOST};
+use crate::stream::Room;
 use crate::{
     AhoCorasickBuilder, AhoCorasickKind, Anchored, BuildError, FindIter, Input, Match, MatchError, MatchErrorKind,
     MatchKind, PatternID, Span, StartKind,
@@ -17,14 +16,12 @@ use core::fmt;
 /// For so few patterns the search for the first occurrence is faster than the one for every occurrence.
 const FEW_PATTERNS: usize = 3;
 
-/// For how many bytes an occurrence counts, where every occurrence is listed: it takes about as long to list it as to
-/// look up so many bytes.
-const OCCURRENCE: usize = 4;
-
 /// Searches for any number of patterns.
 ///
-/// Threads may share it. A clone is the same search, and takes no memory. The calls whose names begin with `try_` return
-/// a [`MatchError`] where the others panic.
+/// Threads may share it. A clone is the same search, and takes no memory.
+///
+/// If the searcher does not make a search, the calls for it panic, except for those whose names begin with `try_`: they
+/// return a [`MatchError`]. [`AhoCorasick::is_match`] has no such call; use [`AhoCorasick::try_find`].
 #[derive(Clone)]
 pub struct AhoCorasick {
     parts: Arc<Parts>,
@@ -39,13 +36,11 @@ pub(crate) struct Parts {
     pub shortest: usize,
     pub longest: usize,
     pub leftmost: Leftmost,
-    /// Whether iterations without flags list pages of matches, since no pattern is long.
-    pub is_paged: bool,
-    /// The most patterns that can end at one offset, by a leftmost kind with a long pattern.
-    pub most_at_one_end: usize,
+    /// Whether iterations over earliest matches by a leftmost kind pick them from every occurrence.
+    pub picks_earliest: bool,
     /// The patterns, of which `every` is built; or their lengths alone, if it is never built.
     pub pieces: Pieces,
-    /// The array for every occurrence. By a leftmost kind matches of long patterns may be picked from them.
+    /// The array for every occurrence.
     pub every: Lazy<Prepared>,
 }
 
@@ -81,11 +76,11 @@ impl AhoCorasick {
         AhoCorasickBuilder::new()
     }
 
-    /// Whether a pattern occurs. The search stops at the first match.
+    /// Whether there is a match. The search stops at the first one.
     ///
     /// # Panics
     ///
-    /// Like [`AhoCorasick::find`].
+    /// Like [`AhoCorasick::find`]: also where the [`StartKind`] leaves out the search.
     ///
     /// ```
     /// use aho_corasick::AhoCorasick;
@@ -106,9 +101,9 @@ impl AhoCorasick {
     ///
     /// # Panics
     ///
-    /// If the input is anchored, and the [`StartKind`] is `Unanchored`, as it is unless set; or the other way round. By
-    /// the standard kind an anchored search builds the array for every occurrence, if there is none, and panics if it
-    /// can't.
+    /// If the input is anchored, and the [`StartKind`] is `Unanchored`, which is the default; or if the input is not
+    /// anchored, and the [`StartKind`] is `Anchored`. By the standard kind an anchored search builds the array for
+    /// every occurrence, if there is none, and panics if it can't.
     ///
     /// ```
     /// use aho_corasick::{AhoCorasick, Match, MatchKind};
@@ -155,13 +150,14 @@ impl AhoCorasick {
 
     /// All matches that do not overlap: first that of [`AhoCorasick::find`], and then the first after each match.
     ///
-    /// For an input without flags, if no pattern has more than 1,024 bytes, it allocates room for at most 1,024
-    /// matches, and none before the third one. With a longer pattern it may pick matches from every occurrence: by the
-    /// standard kind always, if that pattern has standard matches; by a leftmost kind where they lie close together,
-    /// and earliest matches unless many patterns can end at one offset. This may allocate the room of
-    /// [`AhoCorasick::find_overlapping_iter`]; by a leftmost kind also the array for every occurrence, the first time;
-    /// and for matches that are not earliest ones, 48 bytes for each byte of the longest pattern. If memory for the
-    /// array or for these bytes is refused, it searches anew after each match.
+    /// For an input without flags it allocates room for at most 1,024 matches, or for one for each four bytes of the
+    /// longest pattern if that is more; and none before the third one. If memory for more than 1,024 is refused, it goes
+    /// on with 1,024, which may take longer.
+    ///
+    /// Earliest matches by a leftmost kind are picked from every occurrence if a pattern has more than 1,024 bytes,
+    /// unless many patterns can end at one offset. The first such iteration builds the array for every occurrence, and
+    /// each allocates the room of [`AhoCorasick::find_overlapping_iter`]. If memory for the array is refused, or no
+    /// pattern is so long, each match is searched for anew.
     ///
     /// # Panics
     ///
@@ -178,10 +174,10 @@ impl AhoCorasick {
     #[inline]
     pub fn find_iter<'a, 'h, I: Into<Input<'h>>>(&'a self, input: I) -> FindIter<'a, 'h> {
         let input = input.into();
-        if self.is_plain(&input) && self.parts.is_paged {
-            return FindIter::pages(&self.parts.leftmost, input.haystack(), input.searched());
+        if self.is_plain(&input) {
+            return self.leftmost_in(input.haystack(), input.searched());
         }
-        done(self.try_matches(input))
+        done(self.try_matches_by_flags(input))
     }
 
     /// Like [`AhoCorasick::find_iter`].
@@ -192,58 +188,37 @@ impl AhoCorasick {
     #[inline]
     pub fn try_find_iter<'a, 'h, I: Into<Input<'h>>>(&'a self, input: I) -> Result<FindIter<'a, 'h>, MatchError> {
         let input = input.into();
-        if self.is_plain(&input) && self.parts.is_paged {
-            return Ok(FindIter::pages(&self.parts.leftmost, input.haystack(), input.searched()));
+        if self.is_plain(&input) {
+            return Ok(self.leftmost_in(input.haystack(), input.searched()));
         }
-        self.try_matches(input)
+        self.try_matches_by_flags(input)
     }
 
-    /// All matches that do not overlap, where some flag is set or a pattern is long.
-    fn try_matches<'a, 'h>(&'a self, input: Input<'h>) -> Result<FindIter<'a, 'h>, MatchError> {
-        let (kind, is_anchored) = (self.parts.kind, input.get_anchored().is_anchored());
+    /// All matches that do not overlap, where these are not those that `leftmost` finds.
+    fn try_matches_by_flags<'a, 'h>(&'a self, input: Input<'h>) -> Result<FindIter<'a, 'h>, MatchError> {
         self.check(input.get_anchored())?;
-        Ok(match (kind, input.get_earliest()) {
-            (MatchKind::Standard, _) if !is_anchored => {
-                FindIter::picked(FindOverlappingIter::new(self.every()?, &input))
-            }
+        Ok(match (self.parts.kind, input.get_earliest()) {
             (MatchKind::Standard, _) => FindIter::one_by_one(self, input),
             (_, true) => self.earliest_matches(input),
-            (_, false) if is_anchored => FindIter::adjacent(self, &input),
-            (_, false) => self.leftmost_in(input.haystack(), input.searched()),
+            (_, false) => FindIter::adjacent(self, &input),
         })
     }
 
-    /// The matches of a leftmost kind in a span.
+    /// The matches that `leftmost` finds in a span.
+    #[inline]
     pub(crate) fn leftmost_in<'a, 'h>(&'a self, haystack: &'h [u8], span: Span) -> FindIter<'a, 'h> {
-        if self.parts.is_paged {
-            FindIter::pages(&self.parts.leftmost, haystack, span)
-        } else {
-            FindIter::long(self, &self.parts.leftmost, haystack, span)
-        }
+        FindIter::pages(&self.parts.leftmost, haystack, span)
     }
 
-    /// The earliest matches where the kind is a leftmost one. If a pattern is long, they are picked from every
-    /// occurrence, unless so many patterns can end at one offset that this takes longer, or the array can't be built.
+    /// The earliest matches where the kind is a leftmost one. No call lists them, so each would be searched for anew, with
+    /// some times as many look-ups as the longest pattern has bytes. If that takes longer, they are picked from every
+    /// occurrence; anchored ones are searched for by the same array. It may be that this can't be built.
     fn earliest_matches<'a, 'h>(&'a self, input: Input<'h>) -> FindIter<'a, 'h> {
-        let may_pick = !self.parts.is_paged && self.close_len(1) > 0;
-        let every = if may_pick { self.built().ok() } else { None };
+        let every = if self.parts.picks_earliest { self.built().ok() } else { None };
         match every.filter(|_| !input.get_anchored().is_anchored()) {
             Some(every) => FindIter::picked(FindOverlappingIter::new(every, &input)),
             None => FindIter::one_by_one(self, input),
         }
-    }
-
-    /// In how many bytes so many matches lie so close together that it takes less to pick them from every occurrence
-    /// than to search anew after each match. The one looks up as many bytes as the longest pattern has, after each
-    /// match. The other lists as many occurrences for each byte as patterns can end at one offset.
-    pub(crate) fn close_len(&self, count: usize) -> usize {
-        let Parts { longest, most_at_one_end, .. } = *self.parts;
-        longest.saturating_mul(count) / most_at_one_end.saturating_mul(OCCURRENCE).max(1)
-    }
-
-    /// The matches by a leftmost kind, picked from every occurrence, unless the array for that can't be built.
-    pub(crate) fn picking<'a, 'h>(&'a self, input: &Input<'h>) -> Option<Picking<'a, 'h>> {
-        Some(Picking::new(self.built().ok()?, self.parts.kind, input))
     }
 
     /// Every occurrence, also overlapping and nested ones: ordered by ends, at one end the longest first, and of equal
@@ -251,8 +226,8 @@ impl AhoCorasick {
     ///
     /// It allocates room for at most 256 matches, and none before the first one. If more occur within twice the length
     /// of the longest pattern, it is room for at most 4,096, or for those that end at one offset if these are more. The
-    /// first search for every occurrence builds a second array, if the builder did not. It is about as large as the
-    /// first one, and takes as much time.
+    /// first search for every occurrence builds a second array. It is about as large as the first one, and takes as much
+    /// time. Other threads that need it wait; without the feature `std` each of them builds one, and one is kept.
     ///
     /// # Panics
     ///
@@ -277,7 +252,8 @@ impl AhoCorasick {
     ///
     /// # Errors
     ///
-    /// Where that panics.
+    /// Where that panics. Of several reasons the error names the first of these: the [`StartKind`] leaves out such a
+    /// search, the kind of match is not [`MatchKind::Standard`], the input is anchored, the second array can't be built.
     pub fn try_find_overlapping_iter<'a, 'h, I: Into<Input<'h>>>(
         &'a self,
         input: I,
@@ -289,13 +265,27 @@ impl AhoCorasick {
     /// The search for every occurrence in an input, if one is made.
     #[inline]
     fn every_of(&self, input: &Input<'_>) -> Result<Every<'_>, MatchError> {
-        self.check(input.get_anchored())?;
-        let every = self.every()?;
-        if input.get_anchored().is_anchored() {
-            return Err(MatchError::invalid_input_anchored());
-        }
+        self.check_start(input.get_anchored())?;
+        self.every_by_kind(input)
+    }
+
+    /// The same for an automaton, which looks at the kind of match first.
+    #[inline]
+    pub(crate) fn every_by_kind(&self, input: &Input<'_>) -> Result<Every<'_>, MatchError> {
+        self.check_overlapping()?;
+        let every = self.unanchored_every(input.get_anchored())?;
         let first = Some(&self.parts.leftmost).filter(|_| self.parts.patterns_len <= FEW_PATTERNS);
         Ok(Every { first, ..every })
+    }
+
+    /// The search for every occurrence, for calls that make no anchored search.
+    #[inline]
+    pub(crate) fn unanchored_every(&self, anchored: Anchored) -> Result<Every<'_>, MatchError> {
+        if anchored.is_anchored() {
+            return Err(MatchError::invalid_input_anchored());
+        }
+        self.check(anchored)?;
+        self.every()
     }
 
     /// Finds the next occurrence, in the order of [`AhoCorasick::find_overlapping_iter`]; in an anchored input the next
@@ -304,8 +294,8 @@ impl AhoCorasick {
     ///
     /// # Panics
     ///
-    /// Like [`AhoCorasick::find`]; if the kind of match is not [`MatchKind::Standard`], the array for every occurrence
-    /// can't be built, or the haystack has become shorter.
+    /// Like [`AhoCorasick::find`], and if the kind of match is not [`MatchKind::Standard`], or the array for every
+    /// occurrence can't be built. It may panic if the haystack has become shorter.
     ///
     /// ```
     /// use aho_corasick::{automaton::OverlappingState, AhoCorasick, Match};
@@ -340,11 +330,29 @@ impl AhoCorasick {
     /// Whether searches that are anchored, or not, are made.
     #[inline]
     pub(crate) fn check(&self, anchored: Anchored) -> Result<(), MatchError> {
+        self.check_start(anchored)?;
+        match (self.parts.kind, anchored) {
+            (MatchKind::Standard, Anchored::Yes) => self.every().map(|_| ()),
+            _ => Ok(()),
+        }
+    }
+
+    /// Whether the [`StartKind`] has such a search.
+    #[inline]
+    fn check_start(&self, anchored: Anchored) -> Result<(), MatchError> {
         match (self.parts.start_kind, anchored) {
             (StartKind::Unanchored, Anchored::Yes) => Err(MatchError::invalid_input_anchored()),
             (StartKind::Anchored, Anchored::No) => Err(MatchError::invalid_input_unanchored()),
-            (_, Anchored::Yes) if self.parts.kind == MatchKind::Standard => self.every().map(|_| ()),
             _ => Ok(()),
+        }
+    }
+
+    /// Whether the kind of match has overlapping matches.
+    #[inline]
+    fn check_overlapping(&self) -> Result<(), MatchError> {
+        match self.parts.kind {
+            MatchKind::Standard => Ok(()),
+            kind => Err(MatchError::unsupported_overlapping(kind)),
         }
     }
 
@@ -405,9 +413,7 @@ impl AhoCorasick {
     /// The search for every occurrence, which the first call builds.
     #[inline]
     pub(crate) fn every(&self) -> Result<Every<'_>, MatchError> {
-        if self.parts.kind != MatchKind::Standard {
-            return Err(MatchError::unsupported_overlapping(self.parts.kind));
-        }
+        self.check_overlapping()?;
         self.built().map_err(|why| MatchError::new(MatchErrorKind::NotBuilt { why }))
     }
 
@@ -426,30 +432,16 @@ impl AhoCorasick {
 
     /// Lists the first known matches from a place on, whatever follows the haystack, or if nothing does; in place of what
     /// was in the list. Returns where the search goes on, and whether no more are known.
-    ///
-    /// With a long pattern it lists as many as that has bytes, if there are so many: a call may look up a hundred times the
-    /// length of the pattern for its first matches.
     #[cfg(feature = "std")]
     pub(crate) fn find_so_far(&self, haystack: &[u8], at: usize, more: bool, found: &mut Room) -> (usize, bool) {
-        let Parts { longest, is_paged, .. } = *self.parts;
-        let (rest, most) = (Input::new(haystack).range(at..), if is_paged { MOST } else { MOST.max(longest) });
-        if is_paged {
-            self.parts.leftmost.page(haystack, rest.searched(), most, found);
-        } else {
-            found.clear();
-            found.extend(self.find_iter(rest).take(most));
-        }
-        // (what ends first does so whatever follows)
-        if more && self.parts.kind != MatchKind::Standard {
-            found.truncate(found.partition_point(|it| it.start() + longest <= haystack.len()));
+        // (of the standard kind what ends first does so whatever follows)
+        let is_open = more && self.parts.kind == MatchKind::Standard;
+        let reached = self.parts.leftmost.known_page(haystack, at, more && !is_open, found);
+        if !(is_open && reached.is_last) {
+            return (reached.next, reached.is_last);
         }
         let known = found.last().map_or(at, |it| it.end());
-        let kept = if more { longest.saturating_sub(1) } else { 0 };
-        if found.len() == most {
-            (known, false)
-        } else {
-            (known.max(haystack.len().saturating_sub(kept)), true)
-        }
+        (known.max(haystack.len().saturating_sub(self.parts.longest.saturating_sub(1))), true)
     }
 
     /// The kind that [`AhoCorasickBuilder::kind`] asked for, and otherwise [`AhoCorasickKind::DFA`].
@@ -487,7 +479,7 @@ impl AhoCorasick {
         self.parts.longest
     }
 
-    /// How many bytes the searcher takes in memory, with the array for every occurrence once that is built.
+    /// About how many bytes the searcher takes in memory, with the array for every occurrence once that is built.
     pub fn memory_usage(&self) -> usize {
         let Parts { leftmost, pieces, every, .. } = &*self.parts;
         let every = every.get().map_or(0, |it| core::mem::size_of::<Prepared>() + it.memory_usage());

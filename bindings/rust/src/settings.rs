@@ -17,8 +17,8 @@ impl Anchored {
     }
 }
 
-/// Which searches a searcher makes. It makes all of them as fast with each value; a search that the value leaves out is
-/// a [`MatchError`](crate::MatchError).
+/// Which searches a searcher makes. A search that the value leaves out returns a [`MatchError`](crate::MatchError), or
+/// panics. The value changes neither the time nor the memory of the others.
 #[derive(Clone, Copy, Debug, Default, PartialEq, Eq)]
 pub enum StartKind {
     /// Anchored and unanchored ones.

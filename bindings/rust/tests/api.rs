@@ -45,10 +45,40 @@ fn searches_that_are_not_made() {
 }
 
 #[test]
+fn errors_of_an_iteration_over_every_occurrence_come_in_order() {
+    for start_kind in [StartKind::Both, StartKind::Unanchored, StartKind::Anchored] {
+        for (kind, anchored) in [MatchKind::Standard, MatchKind::LeftmostFirst]
+            .into_iter()
+            .flat_map(|kind| [(kind, Anchored::No), (kind, Anchored::Yes)])
+        {
+            let case = format!("{start_kind:?} {kind:?} {anchored:?}");
+            let input = || Input::new(TEXT).anchored(anchored);
+            let left_out = match (start_kind, anchored) {
+                (StartKind::Unanchored, Anchored::Yes) => Some(MatchError::invalid_input_anchored()),
+                (StartKind::Anchored, Anchored::No) => Some(MatchError::invalid_input_unanchored()),
+                _ => None,
+            };
+            let of_kind = (kind != MatchKind::Standard).then(|| MatchError::unsupported_overlapping(kind));
+            let of_anchor = anchored.is_anchored().then(MatchError::invalid_input_anchored);
+            let wanted = left_out.clone().or(of_kind.clone()).or(of_anchor.clone());
+            let searcher = built(kind, start_kind);
+            let before = searcher.memory_usage();
+            assert_eq!(searcher.try_find_overlapping_iter(input()).err(), wanted, "{case}");
+            // (a search that is not made builds no array)
+            assert_eq!(searcher.memory_usage() > before, wanted.is_none(), "{case}");
+            let automaton = dfa::DFA::builder().match_kind(kind).start_kind(start_kind).build(WORDS).unwrap();
+            let wanted = of_kind.or(of_anchor).or(left_out);
+            assert_eq!(automaton.try_find_overlapping_iter(input()).err(), wanted, "{case}");
+        }
+    }
+}
+
+#[test]
 fn only_anchored_searches() {
     let (searcher, wanted) = (built(MatchKind::Standard, StartKind::Anchored), MatchError::invalid_input_unanchored);
     assert_eq!(searcher.find(Input::new(TEXT).range(2..).anchored(Anchored::Yes)), Some(Match::must(0, 2..5)));
     assert_panics(|| searcher.find(TEXT), searcher.try_find(TEXT), wanted());
+    assert_panics(|| searcher.is_match(TEXT), searcher.try_find(TEXT), wanted());
     let with = ["1", "2"];
     assert_panics(|| searcher.replace_all(TEXT, &with), searcher.try_replace_all(TEXT, &with), wanted());
     let bytes = TEXT.as_bytes();

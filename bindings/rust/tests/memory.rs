@@ -1,4 +1,4 @@
-//! Memory that matches of long patterns need, and what happens if it is refused.
+//! Memory that iterations with long patterns need, and what happens if it is refused.
 use aho_corasick::{AhoCorasick, Input, Match, MatchKind};
 use std::alloc::{GlobalAlloc, Layout, System};
 use std::sync::atomic::{AtomicUsize, Ordering};
@@ -53,36 +53,43 @@ fn refusing<T>(most: usize, call: impl FnOnce() -> T) -> T {
     answer
 }
 
-/// The matches in a text after the first ones, which build the array for every occurrence.
-fn rest_of(searcher: &AhoCorasick, text: &str, given: usize, most: usize) -> Vec<Match> {
-    let (mut found, mut rest) = (searcher.find_iter(text), Vec::with_capacity(text.len()));
-    assert_eq!(found.by_ref().take(given).count(), given);
-    refusing(most, || rest.extend(found));
-    rest
+/// A searcher with a long pattern.
+fn searcher(longest: usize) -> AhoCorasick {
+    let words = ["a".repeat(longest - 1) + "c", "b".to_string()];
+    AhoCorasick::builder().match_kind(MatchKind::LeftmostFirst).build(words).unwrap()
+}
+
+/// The largest request for memory of an iteration, if larger ones than `most` are refused.
+fn largest_request(longest: usize, most: usize) -> usize {
+    let (searcher, text) = (searcher(longest), ("a".repeat(4) + "b").repeat(100_000));
+    let mut found = Vec::with_capacity(100_001);
+    refusing(most, || found.extend(searcher.find_iter(&text)));
+    let wanted = (0..100_000).map(|it| Match::must(1, 5 * it + 4..5 * it + 5));
+    assert!(found.into_iter().eq(wanted));
+    LARGEST.load(Ordering::Relaxed)
 }
 
 #[test]
-fn matches_of_long_patterns() {
+fn pages_of_matches() {
     let _alone = ALONE.lock();
-    let longest = 10_000;
-    let words = ["a".repeat(longest - 1) + "c", "b".to_string()];
-    let searcher = AhoCorasick::builder().match_kind(MatchKind::LeftmostFirst).build(&words).unwrap();
-    // (with a gap of many times the longest pattern, in which nothing is kept)
-    let text = (("a".repeat(49) + "b").repeat(1000) + &"x".repeat(1_000_000)).repeat(2);
-    let wanted: Vec<Match> = text.match_indices('b').map(|(at, _)| Match::must(1, at..at + 1)).skip(6).collect();
-    // (while the array for every occurrence can't be built, earliest matches are searched for one by one)
+    assert_eq!(largest_request(1000, usize::MAX), 24 * 1024);
+    assert_eq!(largest_request(4096, usize::MAX), 24 * 1024);
+    assert_eq!(largest_request(40_000, usize::MAX), 24 * 10_000);
+    // (it goes on with small pages)
+    largest_request(40_000, 1 << 15);
+}
+
+#[test]
+fn earliest_matches_with_a_long_pattern() {
+    let _alone = ALONE.lock();
+    let (searcher, text) = (searcher(10_000), ("a".repeat(49) + "b").repeat(100));
+    let earliest = || searcher.find_iter(Input::new(&text).earliest(true)).map(|it| it.end()).collect();
     let (before, ends) = (searcher.memory_usage(), (1..=100).map(|it| 50 * it).collect::<Vec<usize>>());
-    let earliest = || searcher.find_iter(Input::new(&text[..5_000]).earliest(true)).map(|it| it.end()).collect();
+    // (while the array for every occurrence can't be built, they are searched for one by one)
     assert_eq!(refusing::<Vec<usize>>(1 << 15, earliest), ends);
     assert_eq!(searcher.memory_usage(), before);
     assert_eq!(refusing::<Vec<usize>>(usize::MAX, earliest), ends);
     assert!(before < searcher.memory_usage());
-    assert_eq!(rest_of(&searcher, &text, 6, usize::MAX), wanted);
-    let most = LARGEST.load(Ordering::Relaxed);
-    assert!(24 * longest < most && most <= 48 * longest, "{most}");
-    // (refused before the first match is picked, and after it; pages of matches need less)
-    assert_eq!(rest_of(&searcher, &text, 6, 1 << 15), wanted);
-    assert_eq!(rest_of(&searcher, &text, 7, 24 * longest), wanted[1..]);
 }
 
 #[test]

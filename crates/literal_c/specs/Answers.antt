@@ -34,15 +34,22 @@ AreNext query ignore_case haystack end at (found ∷ more) next =
     IsLeftmostMatch query ignore_case haystack (between at end) found
     × AreNext query ignore_case haystack end found.end more next
 
+-- the end of the last match, or an offset if there is none
+abbrev pub end_of_last : ℕ → List MatchValue → ℕ
+end_of_last at [] = at
+end_of_last at (found ∷ more) = end_of_last found.end more
+
 -- a page of the matches in a span: `written` matches are written, and the rest of the array is unchanged. Either
--- nothing occurs after them, and it is the last page, or the array is full, and the next match begins at `next`
+-- nothing occurs after them, and it is the last page, whose `next` is the end of its last match, or the span's start
+-- without one; or the array is full, and the next match begins at `next`
 pub record IsPage (query : Query) (ignore_case : Bool) (haystack : List ℕ) (span : Span) (old new : List LiteralMatch)
     (page : LiteralPage) : Type 0 where
   pub len : length new ≡ length old
   pub fits : page.written ≤ length new
   pub matches : AreNext query ignore_case haystack span.end span.start (map match_of (take page.written new)) page.next
   pub others : drop page.written new ≡ drop page.written old
-  pub rest : ((page.is_last ≡ 1) × NothingOccurs query.patterns ignore_case haystack (between page.next span.end))
+  pub rest : ((page.is_last ≡ 1) × (page.next ≡ end_of_last span.start (map match_of (take page.written new)))
+      × NothingOccurs query.patterns ignore_case haystack (between page.next span.end))
       ⊎ ((page.is_last ≡ 0) × (page.written ≡ length new)
       × (i : ℕ) × Occurs query.patterns ignore_case haystack (between page.next span.end) i page.next)
 

@@ -1,5 +1,5 @@
 -- The arguments of C, and the status of a call.
-use Rattle.std.specs.Prelude.{◌≡◌, ◌⊎◌, ◌↔◌, ◌==◌, ℕ, ℤ, ◌<◌, ◌≤◌, Bool, List, length, if◌then◌else◌}
+use Rattle.std.specs.Prelude.{◌≡◌, ◌⊎◌, ◌↔◌, ◌==◌, ℕ, ℤ, ◌<◌, ◌≤◌, Bool, List, length, if◌then◌else◌, not}
 use Rattle.literal_base.specs.declared.packed.MatchKind.{MatchKind}
 use Rattle.literal_base.specs.declared.packed.MatchKind.TheVariants.{LeftmostFirst, LeftmostLongest}
 use Rattle.literal_base.specs.Query.{Query}
@@ -20,13 +20,22 @@ IsKind number = number ≤ LITERAL_LEFTMOST_LONGEST
 abbrev pub kind_of : ℕ → MatchKind
 kind_of number = if number == LITERAL_LEFTMOST_FIRST then LeftmostFirst else LeftmostLongest
 
+-- the number of a match kind
+abbrev pub number_of : MatchKind → ℕ
+number_of LeftmostFirst = LITERAL_LEFTMOST_FIRST
+number_of LeftmostLongest = LITERAL_LEFTMOST_LONGEST
+
+-- a flag by its number: 0 is false, and every other number is true
+abbrev pub is_set : ℕ → Bool
+is_set number = not (number == 0)
+
 -- the query: the match kind of a number, and the pieces of a buffer
 abbrev pub argument_query : ℕ → List ℕ → List ℕ → Query
 argument_query kind patterns ends = record { kind = kind_of kind; patterns = pieces patterns 0 ends }
 
--- the search for this query
-abbrev pub argument_search : ℕ → Bool → List ℕ → List ℕ → SearchValue
-argument_search kind ignore_case patterns ends = search_by (kind_of kind) ignore_case (pieces patterns 0 ends)
+-- the search for this query, with the flag for ASCII case
+abbrev pub argument_search : ℕ → ℕ → List ℕ → List ℕ → SearchValue
+argument_search kind ignore_case patterns ends = search_by (kind_of kind) (is_set ignore_case) (pieces patterns 0 ends)
 
 -- the arguments are valid: the number is that of a match kind, and the buffer can be cut at the ends
 pub record Agree (kind : ℕ) (patterns ends : List ℕ) : Type 0 where
@@ -34,8 +43,8 @@ pub record Agree (kind : ℕ) (patterns ends : List ℕ) : Type 0 where
   pub are_ends : AreEnds (length patterns) 0 ends
 
 -- a search for the pieces of a buffer needs too many states
-abbrev pub NeedTooMany : Bool → List ℕ → List ℕ → Type 0
-NeedTooMany ignore_case patterns ends = NeedTooManyReversed ignore_case (pieces patterns 0 ends)
+abbrev pub NeedTooMany : ℕ → List ℕ → List ℕ → Type 0
+NeedTooMany ignore_case patterns ends = NeedTooManyReversed (is_set ignore_case) (pieces patterns 0 ends)
 
 -- the status of a call that has to search for the patterns. It is `LITERAL_BAD_ARGUMENTS` exactly if the arguments are
 -- not valid, `LITERAL_NO_SEARCHER` exactly if they are and the patterns can't be searched for, and one of the other

@@ -3,3 +3,4 @@ pub mod Given
 pub mod Info
 pub mod Refusal
 pub mod Resumed
+pub mod SoFar

@@ -1,5 +1,6 @@
 -- States of the automaton in an array for every occurrence, for loops in C.
-use Rattle.std.specs.Prelude.{◌≡◌, ℕ, ℤ, Bool, ◌-◌, List, drop, if◌then◌else◌, length, take}
+use Rattle.std.specs.Prelude.{◌≡◌, ◌⊎◌, ℕ, ℤ, Bool, ◌-◌, ◌<◌, List, drop, if◌then◌else◌, length}
+use Rattle.std.specs.Prelude.{slice_index, take}
 use Rattle.literal_base.specs.Occurs.{between, whole_of}
 use Rattle.literal_search.specs.Automaton.{AreAtEnd, IsStateAfter}
 use Rattle.literal_search.specs.Overlapping.{OverlappingValue}
@@ -27,6 +28,10 @@ HasStopped array search text haystack start end status next at = (is_match : Boo
     × IsWalked (tables_in search array) text haystack (between start end)
     (record { state = next; at = at; is_match = is_match })
     × (status ≡ (if is_match then LITERAL_OK else LITERAL_NONE))
+
+-- each number of an array is unchanged, or below a limit
+abbrev pub ChangesAreBelow : ℕ → List ℕ → List ℕ → Type 0
+ChangesAreBelow limit old new = (i : ℕ) → (slice_index new i ≡ slice_index old i) ⊎ (slice_index new i < limit)
 
 -- a page of the patterns that are suffixes of a text: their numbers in ascending order from an index on, as many as
 -- there is room for. The rest of the array is unchanged, and `total` is the number of all

@@ -5,10 +5,11 @@ use Rattle.literal_base.specs.MatchValue.{MatchValue}
 use Rattle.literal_base.specs.Occurs.{between}
 use Rattle.literal_base.specs.declared.packed.MatchKind.TheVariants.{LeftmostLongest}
 use Rattle.literal_base.specs.declared.search.Span.{Span}
-use Rattle.literal_search.specs.Prepared.{ForPrepared, HasAllParts}
+use Rattle.literal_search.specs.Prepared.{ForPrepared, HasAllParts, kind_in}
 use Rattle.literal_search.specs.SearchValue.{SearchValue, search_by}
-use Rattle.literal_search.specs.WholeWords.{AreWholeWordsBy, NothingAloneBy, WholeWordsValue, is_ascii_word_byte}
-use Rattle.literal_c.specs.Answers.{match_of}
+use Rattle.literal_search.specs.WholeWords.{AreWholeWordsBy, NothingAloneBy, OccursAloneBy, WholeWordsValue}
+use Rattle.literal_search.specs.WholeWords.{is_ascii_word_byte}
+use Rattle.literal_c.specs.Answers.{end_of_last, match_of}
 use Rattle.literal_c.specs.Arguments.{IsStatusOf, kind_of}
 use Rattle.literal_c.specs.declared.LiteralMatch.{LiteralMatch}
 use Rattle.literal_c.specs.declared.LiteralPage.{LiteralPage}
@@ -23,10 +24,15 @@ abbrev pub ForAsciiWords : List ℕ → ℕ → (WholeWordsValue → Type 0) →
 ForAsciiWords array kind P = ForPrepared array (λ search. search.query.kind ≡ LeftmostLongest
     → (words : WholeWordsValue) × AreAsciiWords kind search words × P words)
 
+-- the array has the parts of a search that prefers the longest match
+pub record HasWordParts (array : List ℕ) : Type 0 where
+  pub parts : HasAllParts array
+  pub longest : kind_in array ≡ LeftmostLongest
+
 -- the status of a call that searches for whole words by an array
 abbrev pub IsWordStatusBy : List ℕ → Type 0 → (ℤ → Type 0) → ℤ → Type 0
 IsWordStatusBy array =
-    IsStatusOf (HasAllParts array) (λ P. ForPrepared array (λ search. search.query.kind ≡ LeftmostLongest → P))
+    IsStatusOf (HasWordParts array) (λ P. ForPrepared array (λ search. search.query.kind ≡ LeftmostLongest → P))
 
 -- the bytes that are looked up at the sides of an occurrence: the sides that C gives, or the haystack if there are none
 abbrev pub sides_by : List ℕ → List ℕ → List ℕ
@@ -51,13 +57,15 @@ pub record IsWordPageBy (words : WholeWordsValue) (haystack sides : List ℕ) (s
   pub fits : page.written ≤ length new
   pub continue : ContinueWordsBy words haystack sides span (map match_of (take page.written new)) page.next
   pub others : drop page.written new ≡ drop page.written old
-  pub rest : ((page.is_last ≡ 1) × NothingAloneBy words haystack sides (between page.next span.end))
+  pub rest : ((page.is_last ≡ 1) × (page.next ≡ end_of_last span.start (map match_of (take page.written new)))
+      × NothingAloneBy words haystack sides (between page.next span.end))
       ⊎ ((page.is_last ≡ 0) × (page.written ≡ length new)
-      × ¬ NothingAloneBy words haystack sides (between page.next span.end))
+      × (i : ℕ) × OccursAloneBy words.search.query.patterns words.search.ignore_case words.word_bytes haystack sides
+      (between page.next span.end) i page.next)
 
 -- a page of the whole words in a span: `written` words are written, followed by those of the rest from `next` on, and
--- the rest of the array is unchanged. Either there is none after them, and it is the last page, or the array is full,
--- and there is one
+-- the rest of the array is unchanged. Either there is none after them, and it is the last page, whose `next` is the end
+-- of its last word, or the span's start without one; or the array is full, and the next whole word begins at `next`
 abbrev pub IsWordPage : WholeWordsValue → List ℕ → Span → List LiteralMatch → List LiteralMatch → LiteralPage → Type 0
 IsWordPage words haystack = IsWordPageBy words haystack haystack
 

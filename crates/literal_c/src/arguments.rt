@@ -1,7 +1,7 @@
 //! The arguments of C: a match kind by its number, and patterns.
 ghost use Rattle.std.specs.Prelude.{◌≡◌, ◌↔◌, IsTrue, MatchOption, MatchResult, length};
 ghost use Rattle.literal_search.specs.SearchValue.{CanBeKept, NeedTooManyStates};
-ghost use Rattle.literal_c.specs.Arguments.{Agree, IsKind, NeedTooMany, argument_search, kind_of};
+ghost use Rattle.literal_c.specs.Arguments.{Agree, IsKind, NeedTooMany, argument_search, is_set, kind_of, number_of};
 ghost use Rattle.literal_c.specs.Inside.Refusal.{IsRefused, status_of};
 ghost use Rattle.literal_c.specs.Overlapping.{overlapping_for};
 ghost use Rattle.literal_c.specs.Pieces.{AreEnds, pieces};
@@ -52,11 +52,21 @@ pub fn match_kind(number: u32) -> Option<MatchKind>
     }
 }
 
+/// The number of this match kind.
+pub fn number_of(kind: MatchKind) -> u32
+    ensures { result ≡ number_of kind }
+{
+    match kind {
+        MatchKind::LeftmostFirst => LITERAL_LEFTMOST_FIRST,
+        MatchKind::LeftmostLongest => LITERAL_LEFTMOST_LONGEST,
+    }
+}
+
 /// The search that C asks for, or the error. Memory is requested only if the patterns can be searched for.
 pub fn search_for(
     alloc: Global,
     kind: u32,
-    ignore_case: bool,
+    ignore_case: u32,
     patterns: &[u8],
     ends: &[usize],
 ) -> Result<Search, Refusal>
@@ -75,7 +85,7 @@ pub fn search_for(
     if !can_be_searched(patterns, ends) {
         return Err(Refusal::NoSearcher);
     }
-    match Search::new(alloc, kind, ignore_case, Pieces::new(patterns, ends)) {
+    match Search::new(alloc, kind, ignore_case != 0, Pieces::new(patterns, ends)) {
         Ok(search) => Ok(search),
         Err(BuildError::TooManyStates) => Err(Refusal::TooLarge),
         Err(_) => Err(Refusal::OutOfMemory),
@@ -85,15 +95,15 @@ pub fn search_for(
 /// The same for a search for every occurrence, which has no match kind.
 pub fn search_for_all(
     alloc: Global,
-    ignore_case: bool,
+    ignore_case: u32,
     patterns: &[u8],
     ends: &[usize],
 ) -> Result<Overlapping, Refusal>
     ensures { MatchResult result
         (λ search. AreEnds (length patterns.now) 0 ends.now × CanBeKept (pieces patterns.now 0 ends.now)
-        × (search ≡ overlapping_for (pieces patterns.now 0 ends.now) ignore_case))
+        × (search ≡ overlapping_for (pieces patterns.now 0 ends.now) (is_set ignore_case)))
         (IsRefused (AreEnds (length patterns.now) 0 ends.now) (pieces patterns.now 0 ends.now)
-        (NeedTooManyStates ignore_case (pieces patterns.now 0 ends.now))) }
+        (NeedTooManyStates (is_set ignore_case) (pieces patterns.now 0 ends.now))) }
 {
     if !are_ends(patterns.len(), ends) {
         return Err(Refusal::BadArguments);
@@ -101,7 +111,7 @@ pub fn search_for_all(
     if !can_be_searched(patterns, ends) {
         return Err(Refusal::NoSearcher);
     }
-    match Overlapping::new(alloc, ignore_case, Pieces::new(patterns, ends)) {
+    match Overlapping::new(alloc, ignore_case != 0, Pieces::new(patterns, ends)) {
         Ok(search) => Ok(search),
         Err(BuildError::TooManyStates) => Err(Refusal::TooLarge),
         Err(_) => Err(Refusal::OutOfMemory),

@@ -4,7 +4,7 @@
 //! its pieces end: piece i has the bytes from `ends[i - 1]`, or from 0 for the first, up to `ends[i]`, which is not
 //! included. Each call but [`literal_version`] returns a status, and none keeps anything when it returns. A call with
 //! patterns builds its search anew. The calls whose names end in `_in` search by an array from [`literal_prepare`] or
-//! [`literal_prepare_overlapping`].
+//! [`literal_prepare_overlapping`]. A flag, as `ignore_case`, is a number: 0 is false, and every other number is true.
 #![tactic(auto)]
 
 ghost use Rattle.std.specs.Prelude.{◌≡◌, ◌⊎◌, ◌↔◌, ◌+◌, ◌-◌, ◌<◌, ◌≤◌, length, slice_index};
@@ -20,7 +20,7 @@ ghost use Rattle.literal_search.specs.PreparedOverlapping.{IsWholeOverlapping, W
 ghost use Rattle.literal_c.specs.Answers.{IsAnswerForC, IsCount, IsPage, MayBeFound, MayBeAnswer, MayBePage};
 ghost use Rattle.literal_c.specs.Answers.{match_of};
 ghost use Rattle.literal_c.specs.Arguments.{Agree, IsKind, IsOverlappingStatusBy, IsStatus, IsStatusBy, NeedTooMany};
-ghost use Rattle.literal_c.specs.Arguments.{argument_query, argument_search};
+ghost use Rattle.literal_c.specs.Arguments.{argument_query, argument_search, is_set};
 ghost use Rattle.literal_c.specs.Overlapping.{IsOverlappingPage, all_that_occurs, overlapping_for};
 ghost use Rattle.literal_c.specs.Pieces.{AreEnds, pieces};
 ghost use Rattle.literal_c.specs.SoFar.{TellsSoFar};
@@ -63,6 +63,7 @@ pub use sides::{
     literal_count_words_by_sides_in, literal_find_all_words_by_sides_in,
     literal_find_word_by_sides_in,
 };
+pub use so_far::literal_find_all_so_far_in;
 use so_far::{find_so_far, tell_so_far};
 pub use states::{
     LITERAL_MATCH_STATE, LITERAL_START_STATE, literal_next_state_in, literal_patterns_at_in,
@@ -170,7 +171,7 @@ pub extern "C" fn literal_can_search(patterns: &[u8], ends: &[usize]) -> i32
 /// lent memory is unchanged.
 ///
 /// ```rust
-/// let status = literal_find(alloc, kind, false, WORDS, &ENDS, TEXT, 14, 51, &mut found);
+/// let status = literal_find(alloc, kind, 0, WORDS, &ENDS, TEXT, 14, 51, &mut found);
 /// assert!(rt; status == LITERAL_OK);
 /// assert_match(&rt, &found, (0, 28, 33));
 /// ```
@@ -178,7 +179,7 @@ pub extern "C" fn literal_can_search(patterns: &[u8], ends: &[usize]) -> i32
 pub extern "C" fn literal_find(
     alloc: Global,
     kind: u32,
-    ignore_case: bool,
+    ignore_case: u32,
     patterns: &[u8],
     ends: &[usize],
     haystack: &[u8],
@@ -188,10 +189,10 @@ pub extern "C" fn literal_find(
 ) -> i32
     ensures status { IsStatus (Agree kind patterns.now ends.now × IsValidSpan haystack.now (between start end))
         (pieces patterns.now 0 ends.now) (NeedTooMany ignore_case patterns.now ends.now) result }
-    ensures found { result ≡ LITERAL_OK → IsLeftmostMatch (argument_query kind patterns.now ends.now) ignore_case
-        haystack.now (between start end) (match_of found.new) }
+    ensures found { result ≡ LITERAL_OK → IsLeftmostMatch (argument_query kind patterns.now ends.now)
+        (is_set ignore_case) haystack.now (between start end) (match_of found.new) }
     ensures none { result ≡ LITERAL_NONE
-        → NothingOccurs (pieces patterns.now 0 ends.now) ignore_case haystack.now (between start end) }
+        → NothingOccurs (pieces patterns.now 0 ends.now) (is_set ignore_case) haystack.now (between start end) }
     ensures as_before { (result ≡ LITERAL_OK) ⊎ (found.new ≡ found.old) }
 {
     if start > end || end > haystack.len() {
@@ -212,9 +213,8 @@ pub extern "C" fn literal_find(
 /// Finds all matches in the haystack from an offset on that do not overlap, as many as there is room for: first the
 /// leftmost match from there on, then each time the leftmost match after the end of the previous one. The page says how
 /// many were written, where the next call continues, and whether nothing is left. The rest of the array is unchanged.
-/// With patterns of at most 1,024 bytes, a call looks up at most three times the bytes from that offset on. With a
-/// longer pattern, it looks up at most eleven times these bytes, plus, for each match that it finds, 18 times that
-/// pattern's length plus 108. The status is [`LITERAL_BAD_ARGUMENTS`] if there is no such match kind, if the ends
+/// A call looks up at most three times the bytes from that offset on, and once more for each whole 262,000 bytes of the
+/// longest pattern. The status is [`LITERAL_BAD_ARGUMENTS`] if there is no such match kind, if the ends
 /// decrease or exceed the buffer, if the offset is above the haystack's length, or if there is no room for a match;
 /// else it is [`LITERAL_NO_SEARCHER`] if the patterns can't be searched for. Unless the status is [`LITERAL_OK`], lent
 /// memory is unchanged.
@@ -222,7 +222,7 @@ pub extern "C" fn literal_find(
 pub extern "C" fn literal_find_all(
     alloc: Global,
     kind: u32,
-    ignore_case: bool,
+    ignore_case: u32,
     patterns: &[u8],
     ends: &[usize],
     haystack: &[u8],
@@ -232,8 +232,8 @@ pub extern "C" fn literal_find_all(
 ) -> i32
     ensures status { IsStatus (Agree kind patterns.now ends.now × (from ≤ length haystack.now) × (0 < length found.old))
         (pieces patterns.now 0 ends.now) (NeedTooMany ignore_case patterns.now ends.now) result }
-    ensures page { result ≡ LITERAL_OK → IsPage (argument_query kind patterns.now ends.now) ignore_case haystack.now
-        (rest_from haystack.now from) found.old found.new page.new }
+    ensures page { result ≡ LITERAL_OK → IsPage (argument_query kind patterns.now ends.now) (is_set ignore_case)
+        haystack.now (rest_from haystack.now from) found.old found.new page.new }
     ensures as_before { (result ≡ LITERAL_OK) ⊎ ((found.new ≡ found.old) × (page.new ≡ page.old)) }
     ensures not_none { ¬ (result ≡ LITERAL_NONE) }
 {
@@ -265,7 +265,7 @@ pub extern "C" fn literal_find_all(
 #[unsafe(no_mangle)]
 pub extern "C" fn literal_find_overlapping(
     alloc: Global,
-    ignore_case: bool,
+    ignore_case: u32,
     patterns: &[u8],
     ends: &[usize],
     haystack: &[u8],
@@ -277,9 +277,9 @@ pub extern "C" fn literal_find_overlapping(
     ensures status { IsStatus (AreEnds (length patterns.now) 0 ends.now × IsValidSpan haystack.now (between start end)
         × (0 < length found.old))
         (pieces patterns.now 0 ends.now)
-        (NeedTooManyStates ignore_case (pieces patterns.now 0 ends.now)) result }
+        (NeedTooManyStates (is_set ignore_case) (pieces patterns.now 0 ends.now)) result }
     ensures page { result ≡ LITERAL_OK → IsOverlappingPage
-        (all_that_occurs (overlapping_for (pieces patterns.now 0 ends.now) ignore_case) haystack.now
+        (all_that_occurs (overlapping_for (pieces patterns.now 0 ends.now) (is_set ignore_case)) haystack.now
         (between start end)) found.old found.new page.new }
     ensures as_before { (result ≡ LITERAL_OK) ⊎ ((found.new ≡ found.old) × (page.new ≡ page.old)) }
     ensures not_none { ¬ (result ≡ LITERAL_NONE) }
@@ -311,7 +311,7 @@ pub extern "C" fn literal_find_overlapping(
 pub extern "C" fn literal_find_each(
     alloc: Global,
     kind: u32,
-    ignore_case: bool,
+    ignore_case: u32,
     patterns: &[u8],
     ends: &[usize],
     haystacks: &[u8],
@@ -322,7 +322,7 @@ pub extern "C" fn literal_find_each(
         × (length answers.old ≡ length haystack_ends.now)) (pieces patterns.now 0 ends.now)
         (NeedTooMany ignore_case patterns.now ends.now) result }
     ensures answers { result ≡ LITERAL_OK → AllZip
-        (IsAnswerForC (argument_query kind patterns.now ends.now) ignore_case)
+        (IsAnswerForC (argument_query kind patterns.now ends.now) (is_set ignore_case))
         (pieces haystacks.now 0 haystack_ends.now) answers.new }
     ensures as_before { (result ≡ LITERAL_OK) ⊎ (answers.new ≡ answers.old) }
     ensures not_none { ¬ (result ≡ LITERAL_NONE) }
@@ -348,7 +348,7 @@ pub extern "C" fn literal_find_each(
 pub extern "C" fn literal_prepare(
     alloc: Global,
     kind: u32,
-    ignore_case: bool,
+    ignore_case: u32,
     patterns: &[u8],
     ends: &[usize],
     prepared: &mut [u32],
@@ -387,20 +387,20 @@ pub extern "C" fn literal_prepare(
 #[unsafe(no_mangle)]
 pub extern "C" fn literal_prepare_overlapping(
     alloc: Global,
-    ignore_case: bool,
+    ignore_case: u32,
     patterns: &[u8],
     ends: &[usize],
     prepared: &mut [u32],
     needed: &mut usize,
 ) -> i32
     ensures status { IsStatus (AreEnds (length patterns.now) 0 ends.now) (pieces patterns.now 0 ends.now)
-        (NeedTooManyStates ignore_case (pieces patterns.now 0 ends.now)) result
+        (NeedTooManyStates (is_set ignore_case) (pieces patterns.now 0 ends.now)) result
         ⊎ ((result ≡ LITERAL_TOO_SHORT) × AreEnds (length patterns.now) 0 ends.now
         × CanBeKept (pieces patterns.now 0 ends.now)) }
-    ensures ok { result ≡ LITERAL_OK → WritesOverlapping (overlapping_for (pieces patterns.now 0 ends.now) ignore_case)
-        prepared.old prepared.new needed.new }
+    ensures ok { result ≡ LITERAL_OK → WritesOverlapping
+        (overlapping_for (pieces patterns.now 0 ends.now) (is_set ignore_case)) prepared.old prepared.new needed.new }
     ensures too_short { result ≡ LITERAL_TOO_SHORT
-        → RefusesOverlapping (overlapping_for (pieces patterns.now 0 ends.now) ignore_case) prepared.old
+        → RefusesOverlapping (overlapping_for (pieces patterns.now 0 ends.now) (is_set ignore_case)) prepared.old
         (record { needed = needed.new }) }
     ensures as_before { (result ≡ LITERAL_OK) ⊎ (prepared.new ≡ prepared.old) }
     ensures needed { ((result ≡ LITERAL_OK) ⊎ (result ≡ LITERAL_TOO_SHORT)) ⊎ (needed.new ≡ needed.old) }
@@ -502,14 +502,14 @@ pub extern "C" fn literal_find_so_far_in(
     prepared: &[u32],
     haystack: &[u8],
     start: usize,
-    more: bool,
+    more: u32,
     found: &mut LiteralMatch,
     next: &mut usize,
 ) -> i32
     ensures status { IsStatusBy prepared.now (start ≤ length haystack.now)
         (λ status. (status ≡ LITERAL_OK) ⊎ (status ≡ LITERAL_NONE)) result }
     ensures told { (result ≡ LITERAL_OK) ⊎ (result ≡ LITERAL_NONE)
-        → TellsSoFar prepared.now haystack.now start more result found.new next.new }
+        → TellsSoFar prepared.now haystack.now start (is_set more) result found.new next.new }
     ensures as_before { (result ≡ LITERAL_OK) ⊎ (found.new ≡ found.old) }
     ensures next_as_before { ((result ≡ LITERAL_OK) ⊎ (result ≡ LITERAL_NONE)) ⊎ (next.new ≡ next.old) }
 {
@@ -519,7 +519,7 @@ pub extern "C" fn literal_find_so_far_in(
     let Ok(search) = Prepared::new(prepared) else {
         return LITERAL_DAMAGED;
     };
-    match find_so_far(&search, haystack, start, more) {
+    match find_so_far(&search, haystack, start, more != 0) {
         Err(Damaged) => LITERAL_DAMAGED,
         Ok(answer) => tell_so_far(answer, found, next),
     }
@@ -529,8 +529,8 @@ pub extern "C" fn literal_find_so_far_in(
 /// to `end`, which is not included. [`LITERAL_BAD_ARGUMENTS`] and [`LITERAL_DAMAGED`] come as from [`literal_find_in`],
 /// and the first also without room for a match. After any status but [`LITERAL_OK`] the page is unchanged, and after
 /// [`LITERAL_BAD_ARGUMENTS`] the array of matches too; with a damaged search some matches may be written. With any
-/// array, a page is the last one or full, and the next page begins at least one byte later for each match. If the array
-/// says that no pattern has more than 1,024 bytes, a call looks up at most three times the bytes that it searches.
+/// array, a page is the last one or full, and the next page begins at least one byte later for each match. The bound on
+/// the bytes that it looks up holds too, by the length of the longest pattern that the array gives.
 #[unsafe(no_mangle)]
 pub extern "C" fn literal_find_all_in(
     prepared: &[u32],

@@ -1,9 +1,9 @@
 //! Tests of the exports that count every occurrence, write pages of them, and tell what an array is for.
 use crate::{
-    LITERAL_BAD_ARGUMENTS, LITERAL_DAMAGED, LITERAL_LEFTMOST_FIRST, LITERAL_NO_SEARCHER,
-    LITERAL_OK, LiteralInfo, LiteralMatch, LiteralPage, literal_count_overlapping,
-    literal_count_overlapping_in, literal_find_overlapping_from_in, literal_prepare,
-    literal_prepare_overlapping, literal_prepared_info,
+    LITERAL_BAD_ARGUMENTS, LITERAL_DAMAGED, LITERAL_LEFTMOST_FIRST, LITERAL_LEFTMOST_LONGEST,
+    LITERAL_NO_SEARCHER, LITERAL_OK, LiteralInfo, LiteralMatch, LiteralPage,
+    literal_count_overlapping, literal_count_overlapping_in, literal_find_overlapping_from_in,
+    literal_prepare, literal_prepare_overlapping, literal_prepared_info,
 };
 use std::alloc::Global;
 use std::process::Abort;
@@ -18,7 +18,7 @@ const ENDS: [usize; 4] = [2, 3, 4, 7];
 fn search_for_all(alloc: Global) -> Result<Vec<u32>, Fail> {
     let mut prepared = vec![in alloc; 0; 2000]?;
     let mut needed = 0;
-    let status = literal_prepare_overlapping(alloc, true, WORDS, &ENDS, &mut prepared, &mut needed);
+    let status = literal_prepare_overlapping(alloc, 1, WORDS, &ENDS, &mut prepared, &mut needed);
     if status != LITERAL_OK {
         return Err(Fail::from("nothing is written"));
     }
@@ -28,13 +28,13 @@ fn search_for_all(alloc: Global) -> Result<Vec<u32>, Fail> {
 #[test]
 fn counts_all_that_occurs(rt: HostRuntime) -> Result<(), Fail> {
     let (alloc, mut count) = (rt.alloc(), 7);
-    let status = literal_count_overlapping(alloc, true, WORDS, &ENDS, b"xABab", 0, 5, &mut count);
+    let status = literal_count_overlapping(alloc, 1, WORDS, &ENDS, b"xABab", 0, 5, &mut count);
     assert!(rt; status == LITERAL_OK && count == 7);
-    let status = literal_count_overlapping(alloc, true, WORDS, &ENDS, b"xABab", 2, 4, &mut count);
+    let status = literal_count_overlapping(alloc, 1, WORDS, &ENDS, b"xABab", 2, 4, &mut count);
     assert!(rt; status == LITERAL_OK && count == 2);
-    let status = literal_count_overlapping(alloc, true, WORDS, &ENDS, b"xABab", 2, 6, &mut count);
+    let status = literal_count_overlapping(alloc, 1, WORDS, &ENDS, b"xABab", 2, 6, &mut count);
     assert!(rt; status == LITERAL_BAD_ARGUMENTS && count == 2);
-    let status = literal_count_overlapping(alloc, true, WORDS, &[0], b"xABab", 2, 5, &mut count);
+    let status = literal_count_overlapping(alloc, 1, WORDS, &[0], b"xABab", 2, 5, &mut count);
     assert!(rt; status == LITERAL_NO_SEARCHER && count == 2);
     Ok(())
 }
@@ -98,17 +98,18 @@ fn tells_what_an_array_is_for(rt: HostRuntime) -> Result<(), Fail> {
         shortest: 9,
         longest: 9,
         is_overlapping: 9,
+        kind: 9,
     };
     assert!(rt; literal_prepared_info(&[], &mut info) == LITERAL_DAMAGED && info.patterns == 9);
     let prepared = search_for_all(alloc)?;
     assert!(rt; literal_prepared_info(&prepared, &mut info) == LITERAL_OK);
     assert!(rt; info.patterns == 4 && info.shortest == 1 && info.longest == 3);
-    assert!(rt; info.is_overlapping == 1);
+    assert!(rt; info.is_overlapping == 1 && info.kind == 0);
     let (mut leftmost, mut needed) = (vec![in alloc; 0; 2000]?, 0);
     let status = literal_prepare(
         alloc,
         LITERAL_LEFTMOST_FIRST,
-        false,
+        0,
         b"applefig",
         &[5, 8],
         &mut leftmost,
@@ -117,11 +118,11 @@ fn tells_what_an_array_is_for(rt: HostRuntime) -> Result<(), Fail> {
     assert!(rt; status == LITERAL_OK);
     assert!(rt; literal_prepared_info(&leftmost, &mut info) == LITERAL_OK);
     assert!(rt; info.patterns == 2 && info.shortest == 3 && info.longest == 5);
-    assert!(rt; info.is_overlapping == 0);
+    assert!(rt; info.is_overlapping == 0 && info.kind == LITERAL_LEFTMOST_FIRST);
     let status = literal_prepare(
         alloc,
-        LITERAL_LEFTMOST_FIRST,
-        false,
+        LITERAL_LEFTMOST_LONGEST,
+        0,
         &[],
         &[],
         &mut leftmost,
@@ -130,5 +131,6 @@ fn tells_what_an_array_is_for(rt: HostRuntime) -> Result<(), Fail> {
     assert!(rt; status == LITERAL_OK);
     assert!(rt; literal_prepared_info(&leftmost, &mut info) == LITERAL_OK);
     assert!(rt; info.patterns == 0 && info.shortest == 0 && info.longest == 0);
+    assert!(rt; info.is_overlapping == 0 && info.kind == LITERAL_LEFTMOST_LONGEST);
     Ok(())
 }

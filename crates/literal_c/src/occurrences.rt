@@ -5,7 +5,7 @@ ghost use Rattle.literal_base.specs.Occurs.{IsValidSpan, between};
 ghost use Rattle.literal_search.specs.SearchValue.{NeedTooManyStates};
 ghost use Rattle.literal_search.specs.PreparedOverlapping.{ForOverlapping};
 ghost use Rattle.literal_c.specs.Answers.{MayBePage, match_of};
-ghost use Rattle.literal_c.specs.Arguments.{IsOverlappingStatusBy, IsStatus};
+ghost use Rattle.literal_c.specs.Arguments.{IsOverlappingStatusBy, IsStatus, is_set};
 ghost use Rattle.literal_c.specs.Overlapping.{IsCountForC, IsFrom, IsOverlappingPage};
 ghost use Rattle.literal_c.specs.Overlapping.{occurrences_from, overlapping_for};
 ghost use Rattle.literal_c.specs.Pieces.{AreEnds, pieces};
@@ -13,18 +13,20 @@ ghost use Rattle.literal_c.specs.Pieces.{AreEnds, pieces};
 use crate::answers::write_overlapping;
 use crate::arguments::search_for_all;
 use crate::resumed::Resumed;
-use crate::{LITERAL_BAD_ARGUMENTS, LITERAL_DAMAGED, LITERAL_OK, LiteralMatch, LiteralPage};
+use crate::{
+    LITERAL_BAD_ARGUMENTS, LITERAL_DAMAGED, LITERAL_NONE, LITERAL_OK, LiteralMatch, LiteralPage,
+};
 use literal_search::{Damaged, PreparedOverlapping, Span};
 use std::alloc::Global;
 
 /// Counts every occurrence in the bytes of the haystack from `start` up to `end`, which is not included, also those
 /// that overlap others. If there are 2^64 - 1 or more, the count is 2^64 - 1. The statuses are those of
-/// [`literal_find`](crate::literal_find), except [`LITERAL_NONE`](crate::LITERAL_NONE). Unless the status is
+/// [`literal_find`](crate::literal_find), except [`LITERAL_NONE`]. Unless the status is
 /// [`LITERAL_OK`](crate::LITERAL_OK), the count is unchanged.
 #[unsafe(no_mangle)]
 pub extern "C" fn literal_count_overlapping(
     alloc: Global,
-    ignore_case: bool,
+    ignore_case: u32,
     patterns: &[u8],
     ends: &[usize],
     haystack: &[u8],
@@ -34,10 +36,12 @@ pub extern "C" fn literal_count_overlapping(
 ) -> i32
     ensures status { IsStatus (AreEnds (length patterns.now) 0 ends.now × IsValidSpan haystack.now (between start end))
         (pieces patterns.now 0 ends.now)
-        (NeedTooManyStates ignore_case (pieces patterns.now 0 ends.now)) result }
+        (NeedTooManyStates (is_set ignore_case) (pieces patterns.now 0 ends.now)) result }
     ensures count { result ≡ LITERAL_OK → IsCountForC
-        (overlapping_for (pieces patterns.now 0 ends.now) ignore_case) haystack.now (between start end) count.new }
+        (overlapping_for (pieces patterns.now 0 ends.now) (is_set ignore_case)) haystack.now (between start end)
+        count.new }
     ensures as_before { (result ≡ LITERAL_OK) ⊎ (count.new ≡ count.old) }
+    ensures not_none { ¬ (result ≡ LITERAL_NONE) }
 {
     if start > end || end > haystack.len() {
         return LITERAL_BAD_ARGUMENTS;

@@ -3,8 +3,9 @@ use crate::{
     LITERAL_BAD_ARGUMENTS, LITERAL_DAMAGED, LITERAL_LEFTMOST_FIRST, LITERAL_LEFTMOST_LONGEST,
     LITERAL_NO_SEARCHER, LITERAL_NONE, LITERAL_OK, LITERAL_TOO_SHORT, LiteralAnswer, LiteralMatch,
     LiteralPage, literal_check_overlapping, literal_check_prepared, literal_count_in,
-    literal_find_all_in, literal_find_each_in, literal_find_in, literal_find_overlapping_in,
-    literal_find_so_far_in, literal_prepare, literal_prepare_overlapping,
+    literal_find_all_in, literal_find_all_so_far_in, literal_find_each_in, literal_find_in,
+    literal_find_overlapping_in, literal_find_so_far_in, literal_prepare,
+    literal_prepare_overlapping,
 };
 use std::alloc::Global;
 use std::process::Abort;
@@ -28,7 +29,7 @@ fn assert_match(rt: &impl Abort, found: &LiteralMatch, wanted: (usize, usize, us
 }
 
 /// An array of zeros that is as long as a search for the words needs.
-fn room(alloc: Global, kind: u32, ignore_case: bool) -> Result<Vec<u32>, Fail> {
+fn room(alloc: Global, kind: u32, ignore_case: u32) -> Result<Vec<u32>, Fail> {
     let mut needed = 0;
     let status = literal_prepare(alloc, kind, ignore_case, WORDS, &ENDS, &mut [], &mut needed);
     if status != LITERAL_TOO_SHORT || needed > 10_000 {
@@ -38,7 +39,7 @@ fn room(alloc: Global, kind: u32, ignore_case: bool) -> Result<Vec<u32>, Fail> {
 }
 
 /// A search for the words, followed by three more entries.
-fn search_for_words(alloc: Global, kind: u32, ignore_case: bool) -> Result<Vec<u32>, Fail> {
+fn search_for_words(alloc: Global, kind: u32, ignore_case: u32) -> Result<Vec<u32>, Fail> {
     let mut prepared = room(alloc, kind, ignore_case)?;
     prepared.extend_from_slice(&[7, 8, 9])?;
     let mut needed = 0;
@@ -60,21 +61,21 @@ fn search_for_words(alloc: Global, kind: u32, ignore_case: bool) -> Result<Vec<u
 #[test]
 fn prepares(rt: HostRuntime) -> Result<(), Fail> {
     let (alloc, kind) = (rt.alloc(), LITERAL_LEFTMOST_FIRST);
-    let mut short = room(alloc, kind, false)?;
+    let mut short = room(alloc, kind, 0)?;
     let full = short.len();
     let _ = short.pop();
     let mut needed = 0;
-    let status = literal_prepare(alloc, kind, false, WORDS, &ENDS, &mut short, &mut needed);
+    let status = literal_prepare(alloc, kind, 0, WORDS, &ENDS, &mut short, &mut needed);
     assert!(rt; status == LITERAL_TOO_SHORT && needed == full);
     assert!(rt; short.iter().all(|number| *number == 0));
     needed = 5;
-    let status = literal_prepare(alloc, kind, false, WORDS, &[0], &mut short, &mut needed);
+    let status = literal_prepare(alloc, kind, 0, WORDS, &[0], &mut short, &mut needed);
     assert!(rt; status == LITERAL_NO_SEARCHER && needed == 5);
-    let status = literal_prepare(alloc, 2, false, WORDS, &ENDS, &mut short, &mut needed);
+    let status = literal_prepare(alloc, 2, 0, WORDS, &ENDS, &mut short, &mut needed);
     assert!(rt; status == LITERAL_BAD_ARGUMENTS && needed == 5);
     assert!(rt; short.iter().all(|number| *number == 0));
     assert!(rt; literal_check_prepared(&short) == LITERAL_DAMAGED);
-    let prepared = search_for_words(alloc, kind, false)?;
+    let prepared = search_for_words(alloc, kind, 0)?;
     assert!(rt; literal_check_prepared(&prepared) == LITERAL_OK);
     assert!(rt; prepared.ends_with(&[7, 8, 9]));
     Ok(())
@@ -82,7 +83,7 @@ fn prepares(rt: HostRuntime) -> Result<(), Fail> {
 
 #[test]
 fn finds_by_an_array(rt: HostRuntime) -> Result<(), Fail> {
-    let prepared = search_for_words(rt.alloc(), LITERAL_LEFTMOST_FIRST, true)?;
+    let prepared = search_for_words(rt.alloc(), LITERAL_LEFTMOST_FIRST, 1)?;
     let mut found = BEFORE;
     assert!(rt; literal_find_in(&prepared, TEXT, 14, 51, &mut found) == LITERAL_OK);
     assert_match(&rt, &found, (0, 28, 33));
@@ -102,7 +103,7 @@ fn finds_by_an_array(rt: HostRuntime) -> Result<(), Fail> {
 
 #[test]
 fn finds_pages_by_an_array(rt: HostRuntime) -> Result<(), Fail> {
-    let prepared = search_for_words(rt.alloc(), LITERAL_LEFTMOST_LONGEST, true)?;
+    let prepared = search_for_words(rt.alloc(), LITERAL_LEFTMOST_LONGEST, 1)?;
     let mut found = [BEFORE, BEFORE];
     let mut page = LiteralPage {
         written: 0,
@@ -130,7 +131,7 @@ fn finds_pages_by_an_array(rt: HostRuntime) -> Result<(), Fail> {
 
 #[test]
 fn finds_in_each_by_an_array(rt: HostRuntime) -> Result<(), Fail> {
-    let prepared = search_for_words(rt.alloc(), LITERAL_LEFTMOST_FIRST, false)?;
+    let prepared = search_for_words(rt.alloc(), LITERAL_LEFTMOST_FIRST, 0)?;
     let before = LiteralAnswer {
         status: 7,
         found: BEFORE,
@@ -176,7 +177,7 @@ fn damaged_answers(prepared: &[u32]) -> usize {
 /// Changes each number in turn, in one of its bits, and in all.
 #[test]
 fn notices_each_change(rt: HostRuntime) -> Result<(), Fail> {
-    let mut prepared = search_for_words(rt.alloc(), LITERAL_LEFTMOST_FIRST, true)?;
+    let mut prepared = search_for_words(rt.alloc(), LITERAL_LEFTMOST_FIRST, 1)?;
     assert!(rt; damaged_answers(&prepared) == 0);
     let mut most = 0;
     for place in 0..prepared.len() - prepared.len().min(3) {
@@ -196,7 +197,7 @@ fn notices_each_change(rt: HostRuntime) -> Result<(), Fail> {
 /// Sets every number to any number, except those that say how many there are.
 #[test]
 fn searches_by_any_numbers(rt: HostRuntime) -> Result<(), Fail> {
-    let mut prepared = search_for_words(rt.alloc(), LITERAL_LEFTMOST_FIRST, true)?;
+    let mut prepared = search_for_words(rt.alloc(), LITERAL_LEFTMOST_FIRST, 1)?;
     let mut random: u32 = 1;
     for mask in [7, 63, 511, u32::MAX] {
         for place in 5..prepared.len() {
@@ -212,13 +213,13 @@ fn searches_by_any_numbers(rt: HostRuntime) -> Result<(), Fail> {
 fn search_for_all_of(alloc: Global) -> Result<Vec<u32>, Fail> {
     let (words, ends) = (b"abab", [2, 3, 4]);
     let mut needed = 0;
-    let status = literal_prepare_overlapping(alloc, true, words, &ends, &mut [], &mut needed);
+    let status = literal_prepare_overlapping(alloc, 1, words, &ends, &mut [], &mut needed);
     if status != LITERAL_TOO_SHORT || needed > 10_000 {
         return Err(Fail::from("no room is asked for"));
     }
     let mut prepared = vec![in alloc; 7; needed + 3]?;
     let full = needed;
-    let status = literal_prepare_overlapping(alloc, true, words, &ends, &mut prepared, &mut needed);
+    let status = literal_prepare_overlapping(alloc, 1, words, &ends, &mut prepared, &mut needed);
     if status != LITERAL_OK || needed != full || !prepared.ends_with(&[7, 7, 7]) {
         return Err(Fail::from("nothing is written"));
     }
@@ -232,16 +233,9 @@ fn prepares_for_all_that_occurs(rt: HostRuntime) -> Result<(), Fail> {
     assert!(rt; literal_check_overlapping(&prepared) == LITERAL_OK);
     assert!(rt; literal_check_prepared(&prepared) == LITERAL_DAMAGED);
     let mut needed = 5;
-    let status = literal_prepare_overlapping(
-        alloc,
-        true,
-        b"a",
-        &[0, 1],
-        &mut prepared,
-        &mut needed,
-    );
+    let status = literal_prepare_overlapping(alloc, 1, b"a", &[0, 1], &mut prepared, &mut needed);
     assert!(rt; status == LITERAL_NO_SEARCHER && needed == 5);
-    let status = literal_prepare_overlapping(alloc, true, b"a", &[2], &mut prepared, &mut needed);
+    let status = literal_prepare_overlapping(alloc, 1, b"a", &[2], &mut prepared, &mut needed);
     assert!(rt; status == LITERAL_BAD_ARGUMENTS && needed == 5);
     let mut found = BEFORE;
     assert!(rt; literal_find_in(&prepared, TEXT, 0, 51, &mut found) == LITERAL_DAMAGED);
@@ -286,22 +280,52 @@ fn finds_all_that_occurs_by_an_array(rt: HostRuntime) -> Result<(), Fail> {
 
 #[test]
 fn finds_so_far(rt: HostRuntime) -> Result<(), Fail> {
-    let array = search_for_words(rt.alloc(), LITERAL_LEFTMOST_FIRST, false)?;
+    let array = search_for_words(rt.alloc(), LITERAL_LEFTMOST_FIRST, 0)?;
     let (mut found, mut next) = (BEFORE, 7);
-    let status = literal_find_so_far_in(&array, &TEXT[..19], 0, true, &mut found, &mut next);
+    let status = literal_find_so_far_in(&array, &TEXT[..19], 0, 1, &mut found, &mut next);
     assert!(rt; status == LITERAL_NONE && next == 13);
-    let status = literal_find_so_far_in(&array, &TEXT[..20], 21, true, &mut found, &mut next);
+    let status = literal_find_so_far_in(&array, &TEXT[..20], 21, 1, &mut found, &mut next);
     assert!(rt; status == LITERAL_BAD_ARGUMENTS && next == 13);
     assert_match(&rt, &found, (7, 8, 9));
-    let status = literal_find_so_far_in(&array, &TEXT[..20], 13, true, &mut found, &mut next);
+    let status = literal_find_so_far_in(&array, &TEXT[..20], 13, 1, &mut found, &mut next);
     assert!(rt; status == LITERAL_OK && next == 18);
     assert_match(&rt, &found, (1, 13, 18));
-    let status = literal_find_so_far_in(&array, TEXT, 34, false, &mut found, &mut next);
+    let status = literal_find_so_far_in(&array, TEXT, 34, 0, &mut found, &mut next);
     assert!(rt; status == LITERAL_OK && next == 50);
-    let status = literal_find_so_far_in(&array, TEXT, 50, false, &mut found, &mut next);
+    let status = literal_find_so_far_in(&array, TEXT, 50, 0, &mut found, &mut next);
     assert!(rt; status == LITERAL_NONE && next == 51);
     assert_match(&rt, &found, (2, 43, 50));
-    let status = literal_find_so_far_in(&[], TEXT, 0, true, &mut found, &mut next);
+    let status = literal_find_so_far_in(&[], TEXT, 0, 1, &mut found, &mut next);
     assert!(rt; status == LITERAL_DAMAGED && next == 51);
+    Ok(())
+}
+
+#[test]
+fn finds_all_so_far(rt: HostRuntime) -> Result<(), Fail> {
+    let array = search_for_words(rt.alloc(), LITERAL_LEFTMOST_FIRST, 0)?;
+    let mut found = [BEFORE, BEFORE];
+    let mut page = LiteralPage {
+        written: 0,
+        next: 0,
+        is_last: 7,
+    };
+    let status = literal_find_all_so_far_in(&array, &TEXT[..34], 0, 1, &mut found, &mut page);
+    assert!(rt; status == LITERAL_OK && page.written == 1 && page.next == 28 && page.is_last == 1);
+    assert_match(&rt, &found[0], (1, 13, 18));
+    assert_match(&rt, &found[1], (7, 8, 9));
+    let status = literal_find_all_so_far_in(&array, TEXT, 13, 1, &mut found, &mut page);
+    assert!(rt; status == LITERAL_OK && page.written == 2 && page.next == 33 && page.is_last == 0);
+    assert_match(&rt, &found[1], (0, 28, 33));
+    let status = literal_find_all_so_far_in(&array, TEXT, 33, 1, &mut found, &mut page);
+    assert!(rt; status == LITERAL_OK && page.written == 1 && page.next == 50 && page.is_last == 1);
+    assert_match(&rt, &found[0], (2, 43, 50));
+    let status = literal_find_all_so_far_in(&array, TEXT, 46, 0, &mut found, &mut page);
+    assert!(rt; status == LITERAL_OK && page.written == 0 && page.next == 51 && page.is_last == 1);
+    let status = literal_find_all_so_far_in(&array, TEXT, 52, 0, &mut found, &mut page);
+    assert!(rt; status == LITERAL_BAD_ARGUMENTS && page.next == 51);
+    let status = literal_find_all_so_far_in(&array, TEXT, 0, 0, &mut [], &mut page);
+    assert!(rt; status == LITERAL_BAD_ARGUMENTS && page.next == 51);
+    let status = literal_find_all_so_far_in(&[], TEXT, 0, 1, &mut found, &mut page);
+    assert!(rt; status == LITERAL_DAMAGED && page.next == 51);
     Ok(())
 }

@@ -17,7 +17,7 @@ const ENDS: [usize; 4] = [2, 3, 4, 7];
 fn search_for_all(alloc: Global) -> Result<Vec<u32>, Fail> {
     let mut prepared = vec![in alloc; 0; 2000]?;
     let mut needed = 0;
-    let status = literal_prepare_overlapping(alloc, true, WORDS, &ENDS, &mut prepared, &mut needed);
+    let status = literal_prepare_overlapping(alloc, 1, WORDS, &ENDS, &mut prepared, &mut needed);
     if status != LITERAL_OK {
         return Err(Fail::from("nothing is written"));
     }

@@ -5,7 +5,7 @@ ghost use Rattle.std.specs.List.{All};
 ghost use Rattle.literal_base.specs.Occurs.{IsValidSpan, between};
 ghost use Rattle.literal_search.specs.Automaton.{IsStateAfter};
 ghost use Rattle.literal_search.specs.PreparedOverlapping.{tables_in};
-ghost use Rattle.literal_c.specs.States.{ForState, HasStopped, IsEndingPage, IsStateStatus};
+ghost use Rattle.literal_c.specs.States.{ChangesAreBelow, ForState, HasStopped, IsEndingPage, IsStateStatus};
 
 use crate::{LITERAL_BAD_ARGUMENTS, LITERAL_DAMAGED, LITERAL_NONE, LITERAL_OK};
 use literal_search::{Damaged, PreparedOverlapping, Span, State};
@@ -109,6 +109,7 @@ pub extern "C" fn literal_patterns_at_in(
         → IsEndingPage search text from patterns.old patterns.new total.new) }
     ensures inside { result ≡ LITERAL_OK
         → All (λ number. number < slice_index prepared.now 3) (take (total.new - from) patterns.new) }
+    ensures below { ChangesAreBelow (slice_index prepared.now 3) patterns.old patterns.new }
     ensures len { length patterns.new ≡ length patterns.old }
     ensures as_before { (result ≡ LITERAL_OK) ⊎ (total.new ≡ total.old) }
 {
@@ -134,6 +135,7 @@ fn write_numbers(numbers: &[u32], limit: u32, places: &mut [usize]) -> Result<()
         × All (λ number. number < limit) (take (length places.old) numbers.now))
         (λ _. ¬ All (λ number. number < limit) numbers.now) }
     ensures len { length places.new ≡ length places.old }
+    ensures below { ChangesAreBelow limit places.old places.new }
     ensures others { drop (length numbers.now) places.new ≡ drop (length numbers.now) places.old }
 {
     for at in 0..numbers.len().min(places.len()) {

@@ -45,20 +45,31 @@ fn finds_in_a_span(rt: HostRuntime) -> Result<(), Fail> {
     assert!(rt; literal_can_search(WORDS, &[18]) == LITERAL_BAD_ARGUMENTS);
     let (alloc, kind) = (rt.alloc(), LITERAL_LEFTMOST_FIRST);
     let mut found = BEFORE;
-    let status = literal_find(alloc, kind, false, WORDS, &ENDS, TEXT, 14, 51, &mut found);
+    let status = literal_find(alloc, kind, 0, WORDS, &ENDS, TEXT, 14, 51, &mut found);
     assert!(rt; status == LITERAL_OK);
     assert_match(&rt, &found, (0, 28, 33));
     found = BEFORE;
-    let status = literal_find(alloc, kind, true, WORDS, &ENDS, TEXT, 14, 32, &mut found);
+    let status = literal_find(alloc, kind, 1, WORDS, &ENDS, TEXT, 14, 32, &mut found);
     assert!(rt; status == LITERAL_NONE);
-    let status = literal_find(alloc, kind, true, WORDS, &ENDS, TEXT, 3, 2, &mut found);
+    let status = literal_find(alloc, kind, 1, WORDS, &ENDS, TEXT, 3, 2, &mut found);
     assert!(rt; status == LITERAL_BAD_ARGUMENTS);
-    let status = literal_find(alloc, 2, true, WORDS, &ENDS, TEXT, 0, 51, &mut found);
+    let status = literal_find(alloc, 2, 1, WORDS, &ENDS, TEXT, 0, 51, &mut found);
     assert!(rt; status == LITERAL_BAD_ARGUMENTS);
-    let status = literal_find(alloc, kind, true, WORDS, &[0], TEXT, 0, 51, &mut found);
+    let status = literal_find(alloc, kind, 1, WORDS, &[0], TEXT, 0, 51, &mut found);
     assert!(rt; status == LITERAL_NO_SEARCHER);
     assert_match(&rt, &found, (7, 8, 9));
     Ok(())
+}
+
+#[test]
+fn every_number_but_zero_is_true(rt: HostRuntime) {
+    let (alloc, kind) = (rt.alloc(), LITERAL_LEFTMOST_FIRST);
+    for flag in [1, 2, 3, 255, 256, 1 << 31] {
+        let mut found = BEFORE;
+        let status = literal_find(alloc, kind, flag, b"b", &[1], b"aB", 0, 2, &mut found);
+        assert!(rt; status == LITERAL_OK);
+        assert_match(&rt, &found, (0, 1, 2));
+    }
 }
 
 #[test]
@@ -70,20 +81,18 @@ fn finds_all_in_pages(rt: HostRuntime) -> Result<(), Fail> {
         next: 0,
         is_last: 7,
     };
-    let status = literal_find_all(
-        alloc, kind, true, WORDS, &ENDS, TEXT, 0, &mut found, &mut page,
-    );
+    let status = literal_find_all(alloc, kind, 1, WORDS, &ENDS, TEXT, 0, &mut found, &mut page);
     assert!(rt; status == LITERAL_OK && page.written == 2 && page.next == 43 && page.is_last == 0);
     assert_match(&rt, &found[0], (1, 13, 18));
     assert_match(&rt, &found[1], (0, 28, 33));
     let status = literal_find_all(
-        alloc, kind, true, WORDS, &ENDS, TEXT, 43, &mut found, &mut page,
+        alloc, kind, 1, WORDS, &ENDS, TEXT, 43, &mut found, &mut page,
     );
     assert!(rt; status == LITERAL_OK && page.written == 1 && page.next == 50 && page.is_last == 1);
     assert_match(&rt, &found[0], (2, 43, 50));
     assert_match(&rt, &found[1], (0, 28, 33));
     let status = literal_find_all(
-        alloc, kind, true, WORDS, &ENDS, TEXT, 52, &mut found, &mut page,
+        alloc, kind, 1, WORDS, &ENDS, TEXT, 52, &mut found, &mut page,
     );
     assert!(rt; status == LITERAL_BAD_ARGUMENTS && page.written == 1);
     Ok(())
@@ -101,7 +110,7 @@ fn finds_in_each(rt: HostRuntime) -> Result<(), Fail> {
     let status = literal_find_each(
         alloc,
         kind,
-        false,
+        0,
         WORDS,
         &ENDS,
         lines,
@@ -115,16 +124,7 @@ fn finds_in_each(rt: HostRuntime) -> Result<(), Fail> {
     assert_match(&rt, &answers[1].found, (0, 0, 0));
     assert!(rt; answers[2].status == LITERAL_OK);
     assert_match(&rt, &answers[2].found, (1, 1, 6));
-    let status = literal_find_each(
-        alloc,
-        kind,
-        false,
-        WORDS,
-        &ENDS,
-        lines,
-        &[8, 12],
-        &mut answers,
-    );
+    let status = literal_find_each(alloc, kind, 0, WORDS, &ENDS, lines, &[8, 12], &mut answers);
     assert!(rt; status == LITERAL_BAD_ARGUMENTS && answers[0].status == LITERAL_OK);
     Ok(())
 }
@@ -140,31 +140,21 @@ fn finds_all_that_occurs(rt: HostRuntime) -> Result<(), Fail> {
     };
     let (words, ends) = (b"abab", [2, 3, 4]);
     let status = literal_find_overlapping(
-        alloc, true, words, &ends, b"xAB", 0, 3, &mut found, &mut page,
+        alloc, 1, words, &ends, b"xAB", 0, 3, &mut found, &mut page,
     );
     assert!(rt; status == LITERAL_OK && page.written == 2 && page.next == 3 && page.is_last == 0);
     assert_match(&rt, &found[0], (1, 1, 2));
     assert_match(&rt, &found[1], (0, 1, 3));
     let status = literal_find_overlapping(
-        alloc, true, words, &ends, b"xAB", 2, 3, &mut found, &mut page,
+        alloc, 1, words, &ends, b"xAB", 2, 3, &mut found, &mut page,
     );
     assert!(rt; status == LITERAL_OK && page.written == 1 && page.next == 3 && page.is_last == 1);
     assert_match(&rt, &found[0], (2, 2, 3));
     let status = literal_find_overlapping(
-        alloc, true, words, &ends, b"xAB", 2, 4, &mut found, &mut page,
+        alloc, 1, words, &ends, b"xAB", 2, 4, &mut found, &mut page,
     );
     assert!(rt; status == LITERAL_BAD_ARGUMENTS && page.written == 1);
-    let status = literal_find_overlapping(
-        alloc,
-        true,
-        words,
-        &ends,
-        b"xAB",
-        2,
-        3,
-        &mut [],
-        &mut page,
-    );
+    let status = literal_find_overlapping(alloc, 1, words, &ends, b"xAB", 2, 3, &mut [], &mut page);
     assert!(rt; status == LITERAL_BAD_ARGUMENTS && page.written == 1);
     Ok(())
 }

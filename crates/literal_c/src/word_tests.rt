@@ -30,9 +30,13 @@ fn assert_match(rt: &impl Abort, found: &LiteralMatch, wanted: (usize, usize, us
 
 /// A search for the longest of the words, with case ignored.
 fn prepared(alloc: Global) -> Result<Vec<u32>, Fail> {
-    let (kind, mut needed) = (LITERAL_LEFTMOST_LONGEST, 0);
-    let mut array = vec![in alloc; 0; 2_000]?;
-    let status = literal_prepare(alloc, kind, true, WORDS, &ENDS, &mut array, &mut needed);
+    prepared_by(alloc, LITERAL_LEFTMOST_LONGEST)
+}
+
+/// The same by a kind.
+fn prepared_by(alloc: Global, kind: u32) -> Result<Vec<u32>, Fail> {
+    let (mut array, mut needed) = (vec![in alloc; 0; 2_000]?, 0);
+    let status = literal_prepare(alloc, kind, 1, WORDS, &ENDS, &mut array, &mut needed);
     if status != LITERAL_OK {
         return Err(Fail::from("nothing is written"));
     }
@@ -97,6 +101,28 @@ fn counts_words(rt: HostRuntime) -> Result<(), Fail> {
     assert!(rt; status == LITERAL_BAD_ARGUMENTS && count == 7);
     assert!(rt; literal_count_words_in(FIRST, &array, TEXT, 0, 40, &mut count) == LITERAL_OK);
     assert!(rt; count == 2);
+    Ok(())
+}
+
+/// No word is found by an array of the other kind, in which links to shorter words may be missing.
+#[test]
+fn refuses_an_array_of_the_other_kind(rt: HostRuntime) -> Result<(), Fail> {
+    let array = prepared_by(rt.alloc(), FIRST)?;
+    let (mut found, mut count) = (BEFORE, 7);
+    let mut page = LiteralPage {
+        written: 5,
+        next: 6,
+        is_last: 7,
+    };
+    for kind in [FIRST, LITERAL_LEFTMOST_LONGEST] {
+        let status = literal_find_word_in(kind, &array, TEXT, 0, 40, &mut found);
+        assert!(rt; status == LITERAL_DAMAGED);
+        let status = literal_find_all_words_in(kind, &array, TEXT, 0, 40, &mut [found], &mut page);
+        assert!(rt; status == LITERAL_DAMAGED && page.written == 5);
+        let status = literal_count_words_in(kind, &array, TEXT, 0, 40, &mut count);
+        assert!(rt; status == LITERAL_DAMAGED && count == 7);
+    }
+    assert_match(&rt, &found, (7, 8, 9));
     Ok(())
 }
 

@@ -2,11 +2,10 @@
 ghost use Rattle.std.specs.Prelude.{◌≡◌, ◌+◌, ◌-◌, ◌≤◌, IfOk, MatchResult, length, slice_index};
 ghost use Rattle.std.specs.Result.{IsOkAnd};
 ghost use Rattle.literal_base.specs.Occurs.{IsValidSpan};
-ghost use Rattle.literal_search.specs.Prepared.{HasAllParts};
 ghost use Rattle.literal_search.specs.PreparedWords.{ForWholeWords};
 ghost use Rattle.literal_c.specs.Answers.{MayBePage};
 ghost use Rattle.literal_c.specs.Inside.Given.{AreWordsBy};
-ghost use Rattle.literal_c.specs.Words.{IsWordCountBy, IsWordPageBy};
+ghost use Rattle.literal_c.specs.Words.{HasWordParts, IsWordCountBy, IsWordPageBy};
 
 use crate::answers::match_for_c;
 use crate::{LiteralMatch, LiteralPage};
@@ -14,11 +13,11 @@ use literal_search::{Damaged, MatchKind, Prepared, PreparedWords, Span, WholeWor
 
 /// The search for whole words by an array, with a match kind and the ASCII word bytes.
 pub fn words_in(kind: MatchKind, prepared: &[u32]) -> Result<PreparedWords<'_>, Damaged>
-    ensures { MatchResult result (λ words. AreWordsBy kind prepared.now words × HasAllParts prepared.now)
-        (λ _. ¬ HasAllParts prepared.now) }
+    ensures { MatchResult result (λ words. AreWordsBy kind prepared.now words × HasWordParts prepared.now)
+        (λ _. ¬ HasWordParts prepared.now) }
 {
     let prepared = Prepared::new(prepared)?;
-    Ok(PreparedWords::new(prepared, kind, WholeWords::ascii_word_bytes()))
+    PreparedWords::new(prepared, kind, WholeWords::ascii_word_bytes())
 }
 
 /// Writes the whole words of a span, by the sides of the haystack, as many as there is room for, and returns how many

@@ -41,7 +41,7 @@ pub fn count_scanned(search: &Search, text: &[u8], tally: &mut Tally) -> usize
     ensures count { (all : List MatchValue) × IsGreedy search.now.query search.now.ignore_case text.now 0 all
         × (result ≡ length all) }
     ensures least { tally.old.scanned + length text.now ≤ tally.new.scanned }
-    ensures bounded { ScansListAtMost search.now.query.patterns (length text.now) result tally.old tally.new }
+    ensures bounded { ScansListAtMost search.now.query.patterns (length text.now) tally.old tally.new }
 {
     iterations_scan_at_most();
     let mut matches = search.find_iter(text);

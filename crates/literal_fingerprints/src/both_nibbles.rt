@@ -2,7 +2,6 @@
 //! for the high nibble.
 ghost use Rattle.std.specs.Prelude.{◌≡◌, ℕ, ◌+◌, ◌/◌, ◌%◌, slice_index};
 ghost use Rattle.literal_fingerprints.specs.Inside.Lanes.{HasHalves, HasLanes};
-ghost use Rattle.literal_fingerprints.specs.Inside.Nibbles.{half_table, table_of};
 
 use crate::nibbles::Nibbles;
 use crate::wide::{back_half, twice};
@@ -35,8 +34,7 @@ fn front_and_back(front: u8x32, back: u8x32) -> u8x32
 /// The lanes of one vector of 16, and then those of another.
 #[inline(always)]
 fn joined(front: u8x16, back: u8x16) -> u8x32
-    ensures lanes { HasHalves result (λ k. slice_index front k) (λ k. slice_index back k) }
-    ensures whole { table_of result ≡ record { low = front; high = back } }
+    ensures { HasHalves result (λ k. slice_index front k) (λ k. slice_index back k) }
 {
     front.shuffle(
         back,
@@ -50,24 +48,12 @@ fn joined(front: u8x16, back: u8x16) -> u8x32
 /// A table as one vector: the entries for low nibbles, and then those for high nibbles.
 #[inline(always)]
 pub fn joined_halves(nibbles: Nibbles) -> u8x32
-    ensures lanes { HasHalves result (λ k. slice_index nibbles.low k) (λ k. slice_index nibbles.high k) }
-    ensures whole { table_of result ≡ half_table nibbles }
+    ensures { HasHalves result (λ k. slice_index nibbles.low k) (λ k. slice_index nibbles.high k) }
 {
     joined(
         u8x16::from_slice(&nibbles.low),
         u8x16::from_slice(&nibbles.high),
     )
-}
-
-/// The table that a vector of its halves is made of.
-#[inline(always)]
-pub fn halves_in(table: u8x32) -> Nibbles
-    ensures { half_table result ≡ table_of table }
-{
-    Nibbles {
-        low: front_half(table).to_array(),
-        high: back_half(table).to_array(),
-    }
 }
 
 /// The entries for the nibbles of each byte.

@@ -6,12 +6,11 @@ ghost use Rattle.literal_fingerprints.specs.FingerprintsValue.{AllPass, Fingerpr
 ghost use Rattle.literal_fingerprints.specs.FingerprintsValue.{NoneBegins, fingerprints_in};
 ghost use Rattle.literal_fingerprints.specs.Inside.Lanes.{HasLanes};
 ghost use Rattle.literal_fingerprints.specs.Inside.Nibbles.{halves_of};
-ghost use Rattle.literal_fingerprints.specs.Inside.Scan.{AreTables, HasPassed, IsLookedUp, NoneShared, fingerprints_of};
+ghost use Rattle.literal_fingerprints.specs.Inside.Scan.{AreTables, HasPassed, IsLookedUp, NoneShared};
 
 mod far;
 
-use self::far::next_far;
-use crate::both_nibbles::{halves_in, joined_halves};
+use crate::both_nibbles::joined_halves;
 use crate::buckets::{Buckets, LOOKED_AT};
 use crate::lanes::{LANES, first_set, load, load_rest, zeros_before};
 use crate::looked_up::{LookedUp, Tables};
@@ -199,7 +198,14 @@ impl Fingerprints {
         if is_short {
             return self.rest(tables, passed.before, haystack, passed.at, span, tally);
         }
-        next_far(tables, passed.bytes, haystack, passed.at, span, tally)
+        // The fingerprints are copied: with a reference to them, the compiler keeps them in memory.
+        let copy = Fingerprints {
+            first: self.first,
+            second: self.second,
+            third: self.third,
+            fourth: self.fourth,
+        };
+        copy.next_far(passed.bytes, haystack, passed.at, span, tally)
     }
 
     /// Looks up 16 bytes at a time from an offset on, while there are 16 before another one, or until a pattern may
@@ -287,24 +293,10 @@ impl Fingerprints {
             .min(span.end)
     }
 
-    /// The fingerprints in such vectors.
-    #[inline(always)]
-    fn of_tables(tables: Tables) -> Fingerprints
-        ensures { result ≡ fingerprints_of tables }
-    {
-        Fingerprints {
-            first: halves_in(tables.first),
-            second: halves_in(tables.second),
-            third: halves_in(tables.third),
-            fourth: halves_in(tables.fourth),
-        }
-    }
-
     /// The tables, each as one vector.
     #[inline(always)]
     fn tables(&self) -> Tables
-        ensures tables { AreTables result self.now }
-        ensures whole { fingerprints_of result ≡ self.now }
+        ensures { AreTables result self.now }
     {
         Tables {
             first: joined_halves(self.first),

@@ -1,6 +1,6 @@
 //! A pattern of at most 16 bytes, compared at once with as many bytes of a haystack.
-ghost use Rattle.std.specs.Prelude.{◌≡◌, ℕ, ◌+◌, ◌<◌, ◌≤◌, ◌↔◌, ◌⊎◌, IsTrue, List, MatchOption};
-ghost use Rattle.std.specs.Prelude.{bit_xor, false, length, slice_index};
+ghost use Rattle.std.specs.Prelude.{◌≡◌, ℕ, ◌+◌, ◌<◌, ◌≤◌, ◌↔◌, ◌⊎◌, IsTrue, MatchOption};
+ghost use Rattle.std.specs.Prelude.{bit_xor, false, length, slice_index, take};
 ghost use Rattle.literal_base.specs.Occurs.{StandsAt};
 ghost use Rattle.literal_fingerprints.specs.Inside.Lanes.{HasLanes};
 ghost use Rattle.literal_fingerprints.specs.ShortPatterns.{IsShort, short_in};
@@ -41,12 +41,12 @@ impl ShortPattern {
         })
     }
 
-    /// Returns whether the haystack has the pattern at an offset. Reads 16 bytes.
+    /// Returns whether the haystack has the pattern at an offset, never if `len` is more than 16. Reads 16 bytes.
     #[inline(always)]
     pub fn is_at(&self, haystack: &[u8], at: usize, tally: &mut Tally) -> bool
         requires { at + 16 ≤ length haystack.now }
-        ensures stands { (pattern : List ℕ) → IsShort self.now pattern
-            → IsTrue result ↔ StandsAt false pattern haystack.now at }
+        ensures stands { IsTrue result ↔ ((self.now.len ≤ 16)
+            × StandsAt false (take self.now.len self.now.bytes) haystack.now at) }
         ensures ticks { tally.new ≡ record tally.old { scanned = tally.old.scanned + 16 } }
     {
         let here = load(haystack, at, tally);

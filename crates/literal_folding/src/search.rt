@@ -6,6 +6,7 @@ ghost use Rattle.literal_base.specs.Given.{CanBeTaken};
 ghost use Rattle.literal_base.specs.Greedy.{IsGreedy};
 ghost use Rattle.literal_base.specs.Leftmost.{IsLeftmost};
 ghost use Rattle.literal_base.specs.Occurs.{IsValidSpan, Occurs, whole_of};
+ghost use Rattle.literal_search.specs.LookUps.{no_look_ups};
 ghost use Rattle.literal_search.specs.SearchValue.{CanBeKept, GivesAll, MayRefuseList, NeedTooManyReversed};
 ghost use Rattle.literal_search.specs.SearchValue.{RefusesSearch, search_by};
 ghost use Rattle.literal_search.specs.Stream.{stream_of};
@@ -112,7 +113,7 @@ impl FoldedSearch {
           haystack = text.now;
           span = whole_of text.now;
           at = 0;
-          known = 0;
+          look_ups = no_look_ups;
         } }
     {
         self.search.find_iter(text.as_bytes())

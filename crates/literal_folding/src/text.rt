@@ -22,7 +22,7 @@ impl Model for FoldedText {
 }
 
 impl FoldedText {
-    /// Returns an empty text. Allocates nothing.
+    /// Returns an empty text.
     pub fn empty(alloc: Global) -> FoldedText
         ensures { result ≡ [] }
     {

@@ -9,6 +9,7 @@ pub mod Chains
 pub mod Check
 pub mod Classes
 pub mod Count
+pub mod Cursor
 pub mod Ends
 pub mod EndsFound
 pub mod FirstSuffix
@@ -20,6 +21,7 @@ pub mod Grown
 pub mod Iterations
 pub mod Leftmost
 pub mod LentTables
+pub mod Links
 pub mod Live
 pub mod Longest
 pub mod NextEnd
@@ -32,6 +34,7 @@ pub mod Packed
 pub mod Prefixes
 pub mod Prepared
 pub mod PreparedStates
+pub mod Pushed
 pub mod Recognised
 pub mod Relabelled
 pub mod Replaced
@@ -44,11 +47,14 @@ pub mod Scan
 pub mod ScanIn
 pub mod ScanNumbers
 pub mod Shadowed
+pub mod ShorterWords
 pub mod Sought
+pub mod Passes
 pub mod Position
 pub mod States
 pub mod Streams
 pub mod Texts
+pub mod Trail
 pub mod Unmarked
 pub mod Walk
 pub mod WholeWords

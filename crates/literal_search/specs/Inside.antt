@@ -2,6 +2,7 @@
 pub mod Backward
 pub mod Classes
 pub mod Count
+pub mod Cursor
 pub mod Search
 pub mod Shadowed
 pub mod Suffixes
@@ -23,5 +24,6 @@ pub mod Rows
 pub mod Scan
 pub mod Position
 pub mod Stream
+pub mod Trail
 pub mod Walk
 pub mod WholeWords

@@ -3,6 +3,8 @@ pub mod Automaton
 pub mod Earliest
 pub mod ErrorText
 pub mod Inside
+pub mod Links
+pub mod LookUps
 pub mod MatchesValue
 pub mod Memory
 pub mod Overlapping

@@ -1,21 +1,22 @@
 -- All leftmost matches of a span, one after another: `Matches` and `Starts`, as contracts see them.
-use Rattle.std.specs.Prelude.{◌≡◌, ℕ, ◌+◌, ◌<◌, ◌≤◌, ◌-◌, List, Option, None, Some, IfSome}
+use Rattle.std.specs.Prelude.{◌≡◌, ℕ, ◌+◌, ◌<◌, ◌-◌, List, Option, None, Some, IfSome}
 use Rattle.std.specs.Iterator.{Count, at_most}
 use Rattle.literal_base.specs.Counts.{Counts}
 use Rattle.literal_base.specs.Leftmost.{IsLeftmost}
 use Rattle.literal_base.specs.MatchValue.{MatchValue}
 use Rattle.literal_base.specs.Occurs.{between}
 use Rattle.literal_base.specs.declared.search.Span.{Span}
-use Rattle.literal_search.specs.SearchValue.{ScansNext, looked_by, SearchValue, longest_of}
+use Rattle.literal_search.specs.LookUps.{LookUps, LooksOn, ScansNext}
+use Rattle.literal_search.specs.SearchValue.{SearchValue, longest_of}
 
 -- a `Matches` or `Starts` as contracts see it: the search, the haystack, the span, the offset from which it continues,
--- and the offset up to which it has looked
+-- and bounds on the bytes that it has looked up so far
 pub record MatchesValue : Type 0 where
   pub search : SearchValue
   pub haystack : List ℕ
   pub span : Span
   pub at : ℕ
-  pub known : ℕ
+  pub look_ups : LookUps
 
 -- where `Matches` continues: at the end of the match, or at the end of the span
 abbrev pub offset_at_end : Span → Option MatchValue → ℕ
@@ -27,22 +28,15 @@ abbrev pub offset_after_start : Span → Option MatchValue → ℕ
 offset_after_start span None = span.end
 offset_after_start span (Some found) = found.start + 1
 
--- an iteration has looked at least as far as before, not past the span, and at each byte before the offset where it
--- continues
-pub record LooksOn (longest : ℕ) (span : Span) (known upto offset : ℕ) : Type 0 where
-  pub further : known ≤ upto
-  pub inside : upto ≤ span.end
-  pub looked : offset ≤ looked_by longest span upto
-
 -- the answer is the leftmost match of the rest of the span, which is not empty, or None if nothing occurs there. The
 -- iteration continues at an offset that depends on the answer
 pub record GivesThen (next : Span → Option MatchValue → ℕ) (old : MatchesValue) (answer : Option MatchValue)
     (new : MatchesValue) : Type 0 where
   pub leftmost : IsLeftmost old.search.query old.search.ignore_case old.haystack (between old.at old.span.end) answer
   pub not_empty : IfSome answer (λ found. found.start < found.end)
-  pub known : ℕ
-  pub goes_on : new ≡ record old { at = next old.span answer; known = known }
-  pub looks : LooksOn (longest_of old.search.query.patterns) old.span old.known new.known (next old.span answer)
+  pub look_ups : LookUps
+  pub goes_on : new ≡ record old { at = next old.span answer; look_ups = look_ups }
+  pub looks : LooksOn (longest_of old.search.query.patterns) old.span (next old.span answer) old.look_ups look_ups
 
 -- a step of `Matches`: matches that do not overlap
 abbrev pub GivesMatch : MatchesValue → Option MatchValue → MatchesValue → Type 0
@@ -56,8 +50,7 @@ GivesStart = GivesThen offset_after_start
 pub record GivesCounted (old : MatchesValue × Counts) (answer : Option MatchValue)
     (new : MatchesValue × Counts) : Type 0 where
   pub gives : GivesMatch old.0 answer new.0
-  pub scans : ScansNext (longest_of old.0.search.query.patterns) old.0.span old.0.at old.0.known new.0.known answer
-      old.1 new.1
+  pub scans : ScansNext old.0.look_ups new.0.look_ups old.1 new.1
 
 -- an upper bound on the matches to come: each has at least one byte of the rest
 abbrev pub most_to_come : MatchesValue → Count

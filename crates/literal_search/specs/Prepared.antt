@@ -12,6 +12,9 @@ use Rattle.literal_fingerprints.specs.declared.candidates.CandidateScan.{Candida
 use Rattle.literal_fingerprints.specs.declared.pair.RarePair.{RarePair}
 use Rattle.literal_fingerprints.specs.declared.short.ShortPattern.{ShortPattern}
 use Rattle.literal_fingerprints.specs.FingerprintsValue.{fingerprints_in}
+use Rattle.literal_base.specs.declared.packed.MatchKind.{MatchKind}
+use Rattle.literal_base.specs.declared.packed.MatchKind.TheVariants.{LeftmostFirst, LeftmostLongest}
+use Rattle.literal_search.specs.Links.{AreLinks}
 use Rattle.literal_search.specs.SearchValue.{CanBeKept, HoldsInClasses, longest_of, SearchValue}
 use Rattle.literal_search.specs.SearchValue.{reversed, unshadowed}
 use Rattle.literal_search.specs.Inside.Classes.{AreClasses, LeavesLast, Tells, symbols_in}
@@ -20,10 +23,15 @@ use Rattle.literal_search.specs.States.{IsRowsLength}
 use Rattle.literal_search.specs.Table.{Recognises}
 use Rattle.literal_search.specs.declared.classes.TheConstants.{CLASSES_LEN, PACKED_LEN}
 use Rattle.literal_search.specs.declared.prepared.ArrayTooShort.{ArrayTooShort}
-use Rattle.literal_search.specs.declared.prepared.TheConstants.{LENGTHS_AT, PAIR_AT, PREPARED_VERSION, SCAN_LEN}
-use Rattle.literal_search.specs.declared.prepared.TheConstants.{SHORT_AT}
+use Rattle.literal_search.specs.declared.prepared.TheConstants.{KIND_AT, LENGTHS_AT, PAIR_AT, PREPARED_VERSION}
+use Rattle.literal_search.specs.declared.prepared.TheConstants.{SCAN_LEN, SHORT_AT}
+use Rattle.literal_search.specs.LookUps.{LookUps}
 use Rattle.literal_search.specs.MatchesValue.{MatchesValue}
 use Rattle.literal_ids.specs.declared.primitives.pattern_id.TheConstants.PatternID
+
+-- the match kind of a search for leftmost matches, from the seventh number
+abbrev pub kind_in : List ℕ → MatchKind
+kind_in numbers = if slice_index numbers KIND_AT == 0 then LeftmostFirst else LeftmostLongest
 
 -- the number of byte classes, from the third number
 abbrev pub width_in : List ℕ → ℕ
@@ -163,13 +171,21 @@ pub record AreBackTables (t : BackTables) : Type 0 where
   pub longest : t.longest ≡ longest_of t.search.query.patterns
   pub kept : CanBeKept t.search.query.patterns
 
--- the number of entries of the search. The scan for candidates comes last, after the classes
+-- the index at which the links end, one for each pattern. They come after the classes
+abbrev pub links_end : List ℕ → ℕ
+links_end numbers = classes_end numbers + slice_index numbers 3
+
+-- the links of the patterns
+abbrev pub links_in : List ℕ → List ℕ
+links_in numbers = slice_range numbers (classes_end numbers) (links_end numbers)
+
+-- the number of entries of the search. The scan for candidates comes last, after the links
 abbrev pub prepared_len : List ℕ → ℕ
-prepared_len numbers = classes_end numbers + SCAN_LEN
+prepared_len numbers = links_end numbers + SCAN_LEN
 
 -- the numbers of its scan for candidates
 abbrev pub prints_in : List ℕ → List ℕ
-prints_in numbers = slice_range numbers (classes_end numbers) (prepared_len numbers)
+prints_in numbers = slice_range numbers (links_end numbers) (prepared_len numbers)
 
 -- the array has the parts of a search for leftmost matches, is at least as long as they are, and has a row
 pub record HasAllParts (numbers : List ℕ) : Type 0 where
@@ -196,25 +212,29 @@ back_tables_in search numbers = record {
 abbrev pub ArePrints : List (List ℕ) → Bool → List ℕ → Type 0
 ArePrints patterns ignore_case prints = 0 < past_skipped prints → IsScanFor (scan_by prints) ignore_case patterns
 
--- the array begins with a whole search for leftmost matches: with its tables, the length of each pattern, and a scan
--- that stops at each pattern, if there is one
+-- the array begins with a whole search for leftmost matches: with its match kind, its tables, the length of each
+-- pattern, its link if the longest match is preferred, and a scan that stops at each pattern, if there is one
 pub record IsPrepared (search : SearchValue) (numbers : List ℕ) : Type 0 where
   pub whole : IsWhole numbers
+  pub kind : kind_in numbers ≡ search.query.kind
   pub tables : AreBackTables (back_tables_in search numbers)
   pub lengths : lengths_in numbers ≡ map (λ bytes. length bytes) search.query.patterns
+  pub links : search.query.kind ≡ LeftmostLongest
+      → AreLinks (texts_back (back_tables_in search numbers)) (links_in numbers) (length search.query.patterns)
   pub prints : ArePrints search.query.patterns search.ignore_case (prints_in numbers)
 
 -- a property holds of every search for leftmost matches for which the array is prepared
 abbrev pub ForPrepared : List ℕ → (SearchValue → Type 0) → Type 0
 ForPrepared numbers P = (search : SearchValue) → IsPrepared search numbers → P search
 
--- the number of entries that a search takes: the header, one for each pattern, the rows of all states, the classes, and
+-- the number of entries that a search takes: the header, two for each pattern, the rows of all states, the classes, and
 -- the scan for candidates
 unfoldable pub TakesPlaces : SearchValue → ℕ → Type 0
 TakesPlaces search needed =
     HoldsInClasses (λ texts width. (rows : ℕ)
     × IsRowsLength (reversed (unshadowed search.query.kind texts)) width rows
-    × (needed ≡ LENGTHS_AT + length search.query.patterns + rows + CLASSES_LEN + SCAN_LEN))
+    × (needed ≡ LENGTHS_AT + length search.query.patterns + rows + CLASSES_LEN + length search.query.patterns
+    + SCAN_LEN))
     search.ignore_case search.query.patterns
 
 -- the search is written into the first entries of an array
@@ -229,15 +249,15 @@ RefusesToPrepare search array error =
     × ((numbers : List ℕ) × IsPrepared search numbers × (length numbers ≡ error.needed))
 
 -- a `PreparedMatches` as contracts see it: the array, the haystack, the span, the offset from which it continues, and
--- the offset up to which it has looked
+-- bounds on the bytes that it has looked up so far
 pub record PreparedMatchesValue : Type 0 where
   pub numbers : List ℕ
   pub haystack : List ℕ
   pub span : Span
   pub at : ℕ
-  pub known : ℕ
+  pub look_ups : LookUps
 
 -- the same iteration by a search for which the array is prepared
 abbrev pub matches_for : SearchValue → PreparedMatchesValue → MatchesValue
 matches_for search m =
-    record { search = search; haystack = m.haystack; span = m.span; at = m.at; known = m.known }
+    record { search = search; haystack = m.haystack; span = m.span; at = m.at; look_ups = m.look_ups }

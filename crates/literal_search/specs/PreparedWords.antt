@@ -3,6 +3,7 @@ use Rattle.std.specs.Prelude.{◌≡◌, ℕ, Bool, List}
 use Rattle.literal_base.specs.declared.packed.MatchKind.{MatchKind}
 use Rattle.literal_base.specs.declared.packed.MatchKind.TheVariants.{LeftmostLongest}
 use Rattle.literal_base.specs.declared.search.Span.{Span}
+use Rattle.literal_search.specs.LookUps.{LookUps}
 use Rattle.literal_search.specs.Prepared.{ForPrepared}
 use Rattle.literal_search.specs.SearchValue.{SearchValue, search_by}
 use Rattle.literal_search.specs.WholeWords.{WholeWordMatchesValue, WholeWordsValue}
@@ -21,20 +22,20 @@ words_for search words = record {
 }
 
 -- a property holds of the search for whole words, if the array is prepared for a search that prefers the longest match.
--- Of an array of the other kind this says nothing
+-- `PreparedWords::new` refuses an array of the other kind
 abbrev pub ForWholeWords : PreparedWordsValue → (WholeWordsValue → Type 0) → Type 0
 ForWholeWords words P =
     ForPrepared words.numbers (λ search. search.query.kind ≡ LeftmostLongest → P (words_for search words))
 
 -- a `PreparedWordMatches` as contracts see it: the search, the haystack, the span, the offset from which it continues,
--- the offset from which it looks for the next pattern, and the offset up to which it has looked
+-- the offset from which it looks for the next pattern, and bounds on the bytes that it has looked up so far
 pub record PreparedWordMatchesValue : Type 0 where
   pub words : PreparedWordsValue
   pub haystack : List ℕ
   pub span : Span
   pub at : ℕ
   pub from : ℕ
-  pub known : ℕ
+  pub look_ups : LookUps
 
 -- the same iteration by a search for whole words
 abbrev pub word_matches_by : PreparedWordMatchesValue → WholeWordsValue → WholeWordMatchesValue
@@ -44,7 +45,7 @@ word_matches_by m words = record {
   span = m.span;
   at = m.at;
   from = m.from;
-  known = m.known;
+  look_ups = m.look_ups;
 }
 
 -- a `PreparedWordMatchesBySides` as contracts see it: the iteration, and the sides of the haystack

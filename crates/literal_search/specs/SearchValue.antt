@@ -7,7 +7,7 @@ use Rattle.std.specs.List.{count_by, find, list_any, range_with_len, starts_with
 use Rattle.std.specs.Option.{unwrap_or}
 use Rattle.literal_base.specs.Counts.{Counts}
 use Rattle.literal_base.specs.MatchValue.{MatchValue}
-use Rattle.literal_base.specs.Occurs.{NoneIsEmpty, NothingOccurs, between}
+use Rattle.literal_base.specs.Occurs.{NoneIsEmpty, NothingOccurs}
 use Rattle.literal_base.specs.Query.{Query}
 use Rattle.literal_base.specs.declared.packed.MatchKind.{MatchKind}
 use Rattle.literal_base.specs.declared.packed.MatchKind.TheVariants.{LeftmostFirst, LeftmostLongest}
@@ -17,7 +17,6 @@ use Rattle.literal_search.specs.States.{HasTooManyStates}
 use Rattle.literal_search.specs.declared.BuildError.{BuildError}
 use Rattle.literal_search.specs.declared.BuildError.TheVariants.{EmptyPattern, OutOfMemory, TooManyPatterns}
 use Rattle.literal_search.specs.declared.BuildError.TheVariants.{TooManyStates}
-use Rattle.literal_search.specs.declared.backward.TheConstants.{LEAST}
 use Rattle.literal_search.specs.declared.leftmost.TheConstants.{FIRST}
 use Rattle.literal_ids.specs.declared.primitives.pattern_id.TheConstants.PatternID
 
@@ -124,10 +123,6 @@ pub record ScansThrice (span : Span) (old new : Counts) : Type 0 where
 abbrev pub looked_by : ℕ → Span → ℕ → ℕ
 looked_by longest span known = min (known + min (known - span.start) (longest - 1)) span.end
 
--- `looked_by` for the longest of some patterns
-abbrev pub looked_upto : List (List ℕ) → Span → ℕ → ℕ
-looked_upto patterns = looked_by (longest_of patterns)
-
 -- the first text in a list that is a prefix of a text
 abbrev pub first_prefix : List (List ℕ) → List ℕ → List ℕ
 first_prefix texts text = unwrap_or (find (λ prefix. starts_with nat_eq text prefix) texts) text
@@ -171,27 +166,16 @@ pub record ScansWithin (patterns : List (List ℕ)) (span : Span) (answer : Opti
   pub most : new.scanned ≤ old.scanned + 3 * (span.end - span.start)
   pub counted : LooksFor (longest_of patterns) span answer old.scanned new.scanned
 
--- the bytes that the searches for all matches scan, one after another: at most three times the searched bytes if no
--- pattern is longer than a block, and always at most eleven times as many plus 36 times the first part for each match
-pub record ScansListAtMost (patterns : List (List ℕ)) (bytes matches : ℕ) (old new : Counts) : Type 0 where
-  pub others : new ≡ record old { scanned = new.scanned }
-  pub short : longest_of patterns ≤ LEAST → new.scanned ≤ old.scanned + 3 * bytes
-  pub long : new.scanned ≤ old.scanned + 11 * bytes + matches * (36 * first_part (longest_of patterns))
+-- the most bytes that a list looks up in so many bytes: three times as many, and once more for each whole 262,000 bytes
+-- of the longest pattern
+unfoldable pub most_scanned : ℕ → ℕ → ℕ
+most_scanned longest bytes = (3 + longest / 262000) * bytes
 
--- the bytes that the search for the next match of a list scans. If no pattern is longer than a block, these are at most
--- three times the bytes by which the known part grows, and at least the bytes that were not looked up before; otherwise
--- they are those of a search of the rest
-pub record ScansNext (longest : ℕ) (span : Span) (at known further : ℕ) (answer : Option MatchValue) (old new : Counts)
-    : Type 0 where
+-- at most so many bytes are scanned as a list of so many bytes may look up
+pub record ScansListAtMost (patterns : List (List ℕ)) (bytes : ℕ) (old new : Counts) : Type 0 where
   pub others : new ≡ record old { scanned = new.scanned }
-  pub most : new.scanned ≤ old.scanned + 3 * (span.end - known)
-  pub marked : longest ≤ LEAST → new.scanned ≤ old.scanned + 3 * (further - known)
-  pub least : longest ≤ LEAST
-      → old.scanned + looked_by longest span further ≤ new.scanned + looked_by longest span known
-  pub found : LEAST < longest → (new.scanned ≤ old.scanned + 3 * (span.end - at))
-      × LooksFor longest (between at span.end) answer old.scanned new.scanned
+  pub most : new.scanned ≤ old.scanned + most_scanned (longest_of patterns) bytes
 
--- why memory may be refused for a list: something occurs in the span, or a pattern is longer than a block
+-- why memory may be refused for a list: something occurs in the span
 abbrev pub MayRefuseList : SearchValue → List ℕ → Span → Type 0
 MayRefuseList search haystack span = ¬ NothingOccurs search.query.patterns search.ignore_case haystack span
-    ⊎ (LEAST < longest_of search.query.patterns)

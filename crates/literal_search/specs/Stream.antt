@@ -56,14 +56,15 @@ pub record ScansSoFar (longest len at : ℕ) (answer : SoFar) (old new : Counts)
       → new.scanned + 11 * at ≤ old.scanned + 11 * found.start + 36 * first_part longest
 
 -- a `StreamMatches` as contracts see it: the search, the bytes ahead that were read, the bytes still to be read if they
--- are known, the offset at which the search continues, the kind of the error if reading failed, and whether it has
--- ended
+-- are known, the offset at which the search continues, the kind of the error if reading failed, whether a read has
+-- found the end of the text, and whether the iteration has ended
 pub record StreamValue : Type 0 where
   pub search : SearchValue
   pub held : List ℕ
   pub unread : Option (List ℕ)
   pub offset : ℕ
   pub failure : Option ErrorKind
+  pub is_whole : Bool
   pub is_over : Bool
 
 -- the answer is the leftmost match of a text from an offset on
@@ -89,6 +90,11 @@ pub record ReadsOn (unread : Option (List ℕ)) (failure : Option ErrorKind) (pi
 abbrev pub ReadsPiece : StreamValue → List ℕ → StreamValue → Type 0
 ReadsPiece old piece new = ReadsOn old.unread old.failure piece new.unread new.failure
 
+-- after a read has found the end of the text, nothing is read, and no known bytes are left
+pub record KnowsEnd (old : StreamValue) (piece : List ℕ) (new : StreamValue) : Type 0 where
+  pub stays : old.is_whole ≡ true → (piece ≡ []) × (new.is_whole ≡ true)
+  pub end : new.is_whole ≡ true → IsAtEnd new.unread
+
 -- What a stream is searched for: the leftmost answer in a text from an offset on, and what begins there. The bytes of a
 -- match decide whether it counts, and so many bytes on each side. The bytes ahead begin so many bytes before the offset
 -- at which the search continues, or at the start of the text.
@@ -103,12 +109,14 @@ module _ (IsFirst : List ℕ → ℕ → Option MatchValue → Type 0) (Begins :
   PassesOver from to ahead = (before : List ℕ) → length before ≡ from - margin → (i p : ℕ)
       → Begins (before ++ ahead) from i p → to ≤ p
 
-  -- the answer is the leftmost match in the bytes that were read and those known to follow. The search continues at its
-  -- end
+  -- the answer is the leftmost match in the bytes that were read and whatever follows them, which is nothing if the
+  -- text has ended. The search continues at its end
   pub record GoesBehind (old : StreamValue) (found : MatchValue) (new : StreamValue) : Type 0 where
     pub piece : List ℕ
     pub reads : ReadsPiece old piece new
-    pub leftmost : IsFirstAhead old.offset (Some found) ((old.held ++ piece) ++ known new.unread)
+    pub knows : KnowsEnd old piece new
+    pub leftmost : (more : List ℕ) → (new.is_whole ≡ true → more ≡ [])
+        → IsFirstAhead old.offset (Some found) ((old.held ++ piece) ++ more)
     pub some : old.offset < found.end
     pub within : found.end ≤ (old.offset - margin) + length (old.held ++ piece)
     pub fits : found.end < 2 ^ 64
@@ -117,6 +125,7 @@ module _ (IsFirst : List ℕ → ℕ → Option MatchValue → Type 0) (Begins :
       unread = new.unread;
       offset = found.end;
       failure = new.failure;
+      is_whole = new.is_whole;
     }
 
   -- the search has ended, past all bytes that were read
@@ -126,6 +135,7 @@ module _ (IsFirst : List ℕ → ℕ → Option MatchValue → Type 0) (Begins :
     unread = new.unread;
     offset = (old.offset - margin) + length (old.held ++ piece);
     failure = new.failure;
+    is_whole = new.is_whole;
     is_over = true;
   }
 
@@ -133,6 +143,8 @@ module _ (IsFirst : List ℕ → ℕ → Option MatchValue → Type 0) (Begins :
   pub record EndsWhole (old new : StreamValue) : Type 0 where
     pub piece : List ℕ
     pub reads : ReadsPiece old piece new
+    pub knows : KnowsEnd old piece new
+    pub is_whole : new.is_whole ≡ true
     pub end : IsAtEnd new.unread
     pub no_failure : new.failure ≡ None
     pub nothing : IsFirstAhead old.offset None (old.held ++ piece)
@@ -143,6 +155,7 @@ module _ (IsFirst : List ℕ → ℕ → Option MatchValue → Type 0) (Begins :
   pub record EndsFailed (old : StreamValue) (error : Error) (new : StreamValue) : Type 0 where
     pub piece : List ℕ
     pub reads : ReadsPiece old piece new
+    pub knows : KnowsEnd old piece new
     pub failure : new.failure ≡ Some (error_kind error)
     pub nothing : (more : List ℕ) → PassesOver old.offset
         (new.offset - (longest_of old.search.query.patterns + margin - 1)) ((old.held ++ piece) ++ more)
@@ -166,7 +179,15 @@ most_streamed m = at_most (if m.is_over then 0 else 2 ^ 64 - m.offset)
 -- a search that has not begun, in what a reader gives, if that is known
 abbrev pub stream_of : SearchValue → Option (List ℕ) → StreamValue
 stream_of search unread =
-    record { search = search; held = []; unread = unread; offset = 0; failure = None; is_over = false }
+    record {
+      search = search;
+      held = [];
+      unread = unread;
+      offset = 0;
+      failure = None;
+      is_whole = false;
+      is_over = false;
+    }
 
 -- the answer is the leftmost whole word of a text from an offset on
 abbrev pub IsFirstWordFrom : WholeWordsValue → List ℕ → ℕ → Option MatchValue → Type 0

@@ -10,9 +10,9 @@ use Rattle.literal_base.specs.MatchValue.{MatchValue}
 use Rattle.literal_base.specs.Occurs.{Occurs, between, pattern_at, rest_from}
 use Rattle.literal_base.specs.Query.{Query}
 use Rattle.literal_base.specs.declared.search.Span.{Span}
-use Rattle.literal_search.specs.MatchesValue.{LooksOn, offset_after_start, offset_at_end}
-use Rattle.literal_search.specs.SearchValue.{SearchValue, longest_of, looked_by}
-use Rattle.literal_search.specs.declared.backward.TheConstants.{LEAST}
+use Rattle.literal_search.specs.LookUps.{LookUps, LooksOn}
+use Rattle.literal_search.specs.MatchesValue.{offset_after_start, offset_at_end}
+use Rattle.literal_search.specs.SearchValue.{SearchValue, longest_of, most_scanned}
 
 -- a `WholeWords` as contracts see it: the search, and for each byte whether it is a word byte
 pub record WholeWordsValue : Type 0 where
@@ -103,27 +103,28 @@ abbrev pub AreWordsFrom : WholeWordsValue → List ℕ → ℕ → List MatchVal
 AreWordsFrom words haystack = AreWordsFromBy words haystack haystack
 
 -- a `WholeWordMatches` as contracts see it: the words, the haystack, the span, the offset from which it continues, the
--- offset from which it looks for the next pattern, and the offset up to which it has looked
+-- offset from which it looks for the next pattern, and bounds on the bytes that it has looked up so far for patterns
 pub record WholeWordMatchesValue : Type 0 where
   pub words : WholeWordsValue
   pub haystack : List ℕ
   pub span : Span
   pub at : ℕ
   pub from : ℕ
-  pub known : ℕ
+  pub look_ups : LookUps
 
 -- `GivesWholeWord` by the sides of the haystack
 pub record GivesWholeWordBy (sides : List ℕ) (old : WholeWordMatchesValue) (answer : Option MatchValue)
     (new : WholeWordMatchesValue) : Type 0 where
   pub leftmost : IsFirstAloneBy old.words old.haystack sides (between old.at old.span.end) answer
   pub not_empty : IfSome answer (λ found. found.start < found.end)
-  pub known : ℕ
+  pub look_ups : LookUps
   pub goes_on : new ≡ record old {
     at = offset_at_end old.span answer;
     from = offset_after_start old.span answer;
-    known = known;
+    look_ups = look_ups;
   }
-  pub looks : LooksOn (longest_of old.words.search.query.patterns) old.span old.known new.known new.from
+  pub looks : LooksOn (longest_of old.words.search.query.patterns) old.span (offset_after_start old.span answer)
+      old.look_ups look_ups
 
 -- the answer of `next`: the leftmost whole word of the rest of the span, which is not empty, or None if there is none.
 -- It continues after that word
@@ -149,44 +150,40 @@ pub record GivesWordBySides (old : WordMatchesBySidesValue) (answer : Option Mat
 abbrev pub most_words_by_sides : WordMatchesBySidesValue → Count
 most_words_by_sides m = most_words_to_come m.matches
 
--- the most bytes that are looked up at an offset at which a pattern begins, given the length of the longest one
+-- the most bytes that are looked up at an offset at which a pattern begins, given the length of the longest one: the
+-- byte before it, and the one after each pattern that begins there
 abbrev pub most_at_start : ℕ → ℕ
-most_at_start longest = (longest + 1) * (longest + 1)
+most_at_start longest = longest + 1
 
--- `most_at_start` and three times the bytes of a span, in which each start is searched for anew
-abbrev pub most_anew : ℕ → Span → ℕ
-most_anew longest span = most_at_start longest + 3 * (span.end - span.start)
-
--- the most bytes that are scanned while an iteration advances, and looks further. If no pattern is longer than a block,
--- they are three times the bytes by which it looks further, plus `most_at_start` for each byte by which it advances.
--- Otherwise each start is searched for anew
-pub record ScansWordsAtMost (longest : ℕ) (span : Span) (from upto known further : ℕ) (old new : Counts) : Type 0 where
+-- the most bytes that are scanned while an iteration advances: as much as its bound grows, plus `most_at_start` for
+-- each byte by which it advances
+pub record ScansWordsAtMost (longest from upto before after : ℕ) (old new : Counts) : Type 0 where
   pub others : new ≡ record old { scanned = new.scanned }
-  pub most : longest ≤ LEAST → new.scanned + 3 * known + from * most_at_start longest
-      ≤ old.scanned + 3 * further + upto * most_at_start longest
-  pub long : LEAST < longest → new.scanned + from * most_anew longest span ≤ old.scanned + upto * most_anew longest span
+  pub most : new.scanned + before + from * most_at_start longest
+      ≤ old.scanned + after + upto * most_at_start longest
 
--- the bytes that are scanned: at most those of `ScansWordsAtMost`, and if no pattern is longer than a block, at least
--- those that were not looked up before
-pub record ScansWordsBy (longest : ℕ) (span : Span) (from upto known further : ℕ) (old new : Counts) : Type 0 where
-  pub at_most : ScansWordsAtMost longest span from upto known further old new
-  pub least : longest ≤ LEAST
-      → old.scanned + looked_by longest span further ≤ new.scanned + looked_by longest span known
+-- the bytes that are scanned: at most those of `ScansWordsAtMost`, and at least those that were not looked up before
+pub record ScansWordsBy (longest from upto : ℕ) (before after : LookUps) (old new : Counts) : Type 0 where
+  pub at_most : ScansWordsAtMost longest from upto before.most after.most old new
+  pub least : old.scanned + after.least ≤ new.scanned + before.least
 
 -- `ScansWordsBy` for the longest of some patterns
-abbrev pub ScansWords : List (List ℕ) → Span → ℕ → ℕ → ℕ → ℕ → Counts → Counts → Type 0
+abbrev pub ScansWords : List (List ℕ) → ℕ → ℕ → LookUps → LookUps → Counts → Counts → Type 0
 ScansWords patterns = ScansWordsBy (longest_of patterns)
 
--- the bytes that the search for the first whole word scans. If no pattern is longer than a block, they are at least
--- those up to and including the word's first byte, and at most three times the span, plus `most_at_start` for each of
--- these bytes
+-- the most bytes that the rest of an iteration scans, also if it ends with an error
+abbrev pub ScansWordsRest : ℕ → Span → ℕ → LookUps → Counts → Counts → Type 0
+ScansWordsRest longest span from before =
+    ScansWordsAtMost longest from span.end before.most (most_scanned longest (span.end - span.start))
+
+-- the bytes that the search for the first whole word scans: at least those up to and including the word's first byte,
+-- and at most those of a list of the span, plus `most_at_start` for each of these bytes
 pub record ScansFirstWordBy (longest : ℕ) (span : Span) (answer : Option MatchValue) (old new : Counts) : Type 0 where
   pub others : new ≡ record old { scanned = new.scanned }
-  pub least : longest ≤ LEAST → old.scanned + offset_after_start span answer ≤ new.scanned + span.start
-  pub most : longest ≤ LEAST → new.scanned + span.start * most_at_start longest
-      ≤ old.scanned + 3 * (span.end - span.start) + offset_after_start span answer * most_at_start longest
-  pub long : LEAST < longest → new.scanned + span.start * most_anew longest span
-      ≤ old.scanned + offset_after_start span answer * most_anew longest span
+  pub least : old.scanned + offset_after_start span answer ≤ new.scanned + span.start
+  pub most : new.scanned + span.start * most_at_start longest
+      ≤ old.scanned + most_scanned longest (span.end - span.start)
+      + offset_after_start span answer * most_at_start longest
 
 -- `ScansFirstWordBy` for the longest of some patterns
 abbrev pub ScansFirstWord : List (List ℕ) → Span → Option MatchValue → Counts → Counts → Type 0

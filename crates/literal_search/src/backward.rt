@@ -6,11 +6,11 @@ ghost use Rattle.std.specs.Result.{IsOkAnd};
 ghost use Rattle.literal_base.specs.Leftmost.{IsLeftmost, IsLeftmostMatch};
 ghost use Rattle.literal_base.specs.Occurs.{IsValidSpan, between};
 ghost use Rattle.literal_base.specs.declared.search.Span.{Span};
-ghost use Rattle.literal_search.specs.SearchValue.{ScansNext, ScansThrice, looked_by};
-ghost use Rattle.literal_search.specs.Inside.Backward.{AreMarked, AreMarks, ForBackward, IsAhead, IsBlock};
+ghost use Rattle.literal_search.specs.SearchValue.{ScansThrice, looked_by};
+ghost use Rattle.literal_search.specs.Inside.Backward.{AreListed, AreMarked, AreMarks, ForBackward, IsBlock};
 ghost use Rattle.literal_search.specs.Inside.Backward.{HasLookedAhead, IsBlockMarked};
 ghost use Rattle.literal_search.specs.Inside.Backward.{IsMark, IsMatchBy, IsPlaced, IsSafe, NoneFrom, named_by};
-ghost use Rattle.literal_search.specs.Inside.Backward.{offset_by};
+ghost use Rattle.literal_search.specs.Inside.Backward.{offset_by, room_for};
 ghost use Rattle.literal_search.specs.Inside.Leftmost.{AreLanes, AreMarksAfter, AreSteps, HasBytes, HaveRows};
 ghost use Rattle.literal_search.specs.Inside.Leftmost.{IsLimit, IsPart};
 ghost use Rattle.literal_search.specs.declared.backward.Continuation.{Continuation};
@@ -34,7 +34,7 @@ const FIRST_MARKED: usize = 16;
 
 /// In a list, one walk looks at a candidate alone if the scan passed over enough bytes before it: this many plus half
 /// the length of the longest pattern, and at least that length.
-const FAR: usize = 18;
+pub(crate) const FAR: usize = 18;
 
 /// The least length of the four parts of a marked block.
 const LEAST_MARKED: usize = 6;
@@ -49,6 +49,8 @@ pub struct Backward<'t> {
     pub table: Table<'t>,
     /// The length of each pattern.
     pub lens: &'t [u32],
+    /// The number of the longest pattern that is shorter than a pattern and a prefix of it, for each.
+    pub links: &'t [u32],
     /// The numbers of the scan for candidates, if there is one.
     pub prints: &'t [u32],
 }
@@ -71,12 +73,13 @@ pub struct Marks {
     pub part: usize,
 }
 
-/// What a search ahead came to.
+/// The result of a look ahead.
 #[derive(Clone, Copy)]
 pub struct Looked {
-    /// The next match, if it was found at once.
+    /// The next match, if the look ahead found it.
     pub found: Option<Match>,
-    /// Where the search is: after the start of the match, or no pattern begins before this offset.
+    /// The offset where the search goes on: one byte after the start of the match. If there is none, no pattern begins
+    /// before this offset.
     pub at: usize,
 }
 
@@ -115,7 +118,7 @@ impl<'t> Backward<'t> {
     ) -> Result<Option<Match>, Damaged>
         requires safe { IsSafe self.now }
         requires valid { IsValidSpan haystack.now span }
-        requires room { max self.now.table.longest LEAST ≤ length numbers.old }
+        requires room { room_for self.now.table.longest span ≤ length numbers.old }
         requires placed { IsPlaced self.now.table.longest span at marks.old }
         ensures leftmost { ForBackward self.now (λ tables. AreMarked tables haystack.now span at numbers.old marks.old
             → IsOkAnd result (IsLeftmost tables.search.query tables.search.ignore_case haystack.now
@@ -147,56 +150,6 @@ impl<'t> Backward<'t> {
         Ok(None)
     }
 
-    /// The same for an iteration, whose numbers have room for one block. For a longer pattern, the rest is searched
-    /// anew.
-    pub fn next_in(
-        &self,
-        haystack: &[u8],
-        span: Span,
-        at: usize,
-        on: Continuation,
-        numbers: &mut [u32; LEAST],
-        marks: &mut Marks,
-        tally: &mut Tally,
-    ) -> Result<Option<Match>, Damaged>
-        requires safe { IsSafe self.now }
-        requires valid { IsValidSpan haystack.now span }
-        requires ahead { IsAhead self.now.table.longest span at marks.old }
-        ensures leftmost { ForBackward self.now (λ tables. (self.now.table.longest ≤ LEAST
-            → AreMarked tables haystack.now span at numbers.old marks.old)
-            → IsOkAnd result (IsLeftmost tables.search.query tables.search.ignore_case haystack.now
-            (between at span.end))) }
-        ensures marked { ForBackward self.now (λ tables. self.now.table.longest ≤ LEAST
-            → AreMarked tables haystack.now span at numbers.old marks.old
-            → IfOk result (λ answer. AreMarked tables haystack.now span (offset_by on span answer) numbers.new
-            marks.new)) }
-        ensures lies { IfOk result (λ answer. IfSome answer (IsMatchBy self.now span at)) }
-        ensures ahead { IfOk result (λ answer. IsAhead self.now.table.longest span (offset_by on span answer)
-            marks.new) }
-        ensures further { IfOk result (λ _. (marks.old.known ≤ marks.new.known) × (marks.new.known ≤ span.end)) }
-        ensures looked { IfOk result (λ answer. offset_by on span answer
-            ≤ looked_by self.now.table.longest span marks.new.known) }
-        ensures others { tally.new ≡ record tally.old { scanned = tally.new.scanned } }
-        ensures most { tally.new.scanned ≤ tally.old.scanned + 3 * (span.end - marks.old.known) }
-        ensures scans { IfOk result (λ answer. ScansNext self.now.table.longest span at marks.old.known
-            marks.new.known answer tally.old tally.new) }
-        ensures ended { at ≡ span.end → IsOkAnd result (λ answer. answer ≡ None) }
-    {
-        if at == span.end {
-            return Ok(None);
-        }
-        if self.table.longest <= LEAST {
-            return self.next_match(haystack, span, at, numbers, marks, tally);
-        }
-        let rest = Span {
-            start: at,
-            end: span.end,
-        };
-        let answer = self.find_in(haystack, rest, tally)?;
-        *marks = no_marks(offset_after(on, span, &answer));
-        Ok(answer)
-    }
-
     /// Marks further offsets from one on, unless it is known what begins there.
     #[inline(always)]
     fn mark_from(
@@ -211,7 +164,7 @@ impl<'t> Backward<'t> {
         requires safe { IsSafe self.now }
         requires valid { IsValidSpan haystack.now span }
         requires more { from < span.end }
-        requires room { max self.now.table.longest LEAST ≤ length numbers.old }
+        requires room { room_for self.now.table.longest span ≤ length numbers.old }
         requires placed { IsPlaced self.now.table.longest span from marks.old }
         ensures { HasLookedAhead self.now haystack.now span from numbers.old numbers.new marks.old marks.new tally.old
             tally.new result }
@@ -222,9 +175,9 @@ impl<'t> Backward<'t> {
         self.mark_ahead(haystack, span, from, numbers, marks, tally)
     }
 
-    /// The same if it is not known. A scan for candidates passes over bytes. If it passed over enough, the haystack is
-    /// compared with the only pattern if that is short, and otherwise the offset is marked alone. If not, a block is
-    /// marked. It is not inlined, so that a match in a marked block costs little.
+    /// The same if it is not known. A scan passes over bytes up to a candidate. If it passed over enough, the haystack
+    /// is compared there with the only pattern, if that is short; otherwise this offset is marked alone. If it passed
+    /// over few bytes, a block is marked. It is not inlined, so that a match in a marked block costs little.
     #[tactic(auto, using(crate::proofs::lemmas::Leftmost::ahead_few))]
     #[inline(never)]
     fn mark_ahead(
@@ -240,7 +193,7 @@ impl<'t> Backward<'t> {
         requires valid { IsValidSpan haystack.now span }
         requires more { from < span.end }
         requires unknown { marks.old.known ≤ from }
-        requires room { max self.now.table.longest LEAST ≤ length numbers.old }
+        requires room { room_for self.now.table.longest span ≤ length numbers.old }
         requires placed { IsPlaced self.now.table.longest span from marks.old }
         ensures { HasLookedAhead self.now haystack.now span from numbers.old numbers.new marks.old marks.new tally.old
             tally.new result }
@@ -272,7 +225,7 @@ impl<'t> Backward<'t> {
     }
 
     /// Marks one offset, if a pattern begins there.
-    fn mark_offset(
+    pub(crate) fn mark_offset(
         &self,
         haystack: &[u8],
         span: Span,
@@ -327,7 +280,7 @@ impl<'t> Backward<'t> {
         requires after { span.start ≤ from }
         requires inside { from < span.end }
         requires short { part ≤ MARKED }
-        requires room { max self.now.table.longest LEAST ≤ length numbers.old }
+        requires room { room_for self.now.table.longest span ≤ length numbers.old }
         ensures marked { ForBackward self.now (λ tables. IsOkAnd result
             (AreMarked tables haystack.now span from numbers.new)) }
         ensures placed { IfOk result (IsBlockMarked self.now.table.longest span from) }
@@ -611,7 +564,7 @@ impl<'t> Backward<'t> {
     }
 
     /// The match at the first offset, from one on, whose mark says that a pattern begins.
-    fn next_marked(
+    pub(crate) fn next_marked(
         &self,
         haystack: &[u8],
         span: Span,
@@ -621,8 +574,7 @@ impl<'t> Backward<'t> {
     ) -> Result<Option<Match>, Damaged>
         requires safe { IsSafe self.now }
         requires valid { IsValidSpan haystack.now span }
-        requires room { max self.now.table.longest LEAST ≤ length numbers.now }
-        requires placed { IsPlaced self.now.table.longest span from marks }
+        requires listed { AreListed span from (length numbers.now) marks }
         ensures found { ForBackward self.now (λ tables. AreMarked tables haystack.now span from numbers.now marks
             → IsOkAnd result (λ answer. MatchOption answer
             (NoneFrom tables haystack.now span.end from marks.known)

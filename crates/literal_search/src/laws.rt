@@ -1,6 +1,7 @@
 //! Consequences of the definitions, for callers. Call a law where its fact is needed.
 ghost use Rattle.std.specs.Prelude.{◌≡◌, ◌+◌, ◌<◌, ◌≤◌, ◌-◌, ◌^◌, ◌++◌, ◌∷◌, [], ℕ, Bool, List, length, take, Err};
 ghost use Rattle.std.specs.Prelude.{◌↔◌, ◌⊎◌, IsNone, None, Ok, Option, Some, false, map, slice_range, sum_by};
+ghost use Rattle.std.specs.Io.KnownBytes.{Consumes};
 ghost use Rattle.std.specs.Iterator.{Yields};
 ghost use Rattle.std.specs.List.{All};
 ghost use Rattle.std.specs.Str.{IsCharBoundary, IsUtf8};
@@ -12,7 +13,8 @@ ghost use Rattle.literal_base.specs.Greedy.{IsGreedy, IsGreedyIn};
 ghost use Rattle.literal_base.specs.MatchValue.{MatchValue};
 ghost use Rattle.literal_base.specs.Occurs.{NoneIsEmpty, Occurs, between, pattern_at, rest_from, whole_of};
 ghost use Rattle.literal_base.specs.Query.{Query};
-ghost use Rattle.literal_search.specs.SearchValue.{ScansThrice, looked_upto, ScansListAtMost, SearchValue, longest_of};
+ghost use Rattle.literal_search.specs.LookUps.{ScansRest};
+ghost use Rattle.literal_search.specs.SearchValue.{SearchValue, longest_of};
 ghost use Rattle.literal_search.specs.At.{IsMatchIn};
 ghost use Rattle.literal_search.specs.Automaton.{AreAtEnd, OccursAtEnd};
 ghost use Rattle.literal_search.specs.MatchesValue.{GivesCounted, GivesMatch, MatchesValue};
@@ -23,7 +25,6 @@ ghost use Rattle.literal_search.specs.Prepared.{IsPrepared, IsWhole, RefusesToPr
 ghost use Rattle.literal_search.specs.Prepared.{prepared_len};
 ghost use Rattle.literal_search.specs.PreparedOverlapping.{IsPreparedOverlapping, IsWholeOverlapping, overlapping_len};
 ghost use Rattle.literal_search.specs.Replaced.{replaced};
-ghost use Rattle.literal_search.specs.declared.backward.TheConstants.{LEAST};
 ghost use Rattle.literal_search.specs.declared.prepared.ArrayTooShort.{ArrayTooShort};
 ghost use Rattle.literal_search.specs.Stream.{GivesStreamed, GivesWordStreamed, StreamValue, WordStreamValue};
 ghost use Rattle.literal_search.specs.Stream.{stream_of, word_stream_of};
@@ -43,27 +44,16 @@ pub fn iterations_are_greedy()
         → IsGreedyIn first.search.query first.search.ignore_case first.haystack (between first.at first.span.end) all }
 {}
 
-/// An iteration that counts also gives the greedy list before its first `None` (`greedy`). If no pattern has more than
-/// 1,024 bytes, it scans at most three times the bytes past the offset up to which it had looked (`bounded`), for any
-/// number of matches, and each byte that it had not looked up (`each`). An iteration from the start scans each byte of
-/// its span. It scans at most three times as many, or with longer patterns eleven times as many, and 36 times the first
-/// part for each match (`whole`). One more match extends an iteration (`more`).
+/// An iteration that counts also gives the greedy list before its first `None` (`greedy`). It scans at most as many
+/// bytes as a list of the span may look up, minus those that it had looked up before (`bounded`), for any number of
+/// matches; and each byte that it had not looked up (`each`). One more match extends an iteration (`more`).
 pub fn iterations_scan_at_most()
     ensures bounded { (first last ended : MatchesValue × Counts) (all : List MatchValue)
-        → longest_of first.0.search.query.patterns ≤ LEAST
         → Yields GivesCounted first all last → GivesCounted last None ended
-        → ScansThrice (between first.0.known first.0.span.end) first.1 ended.1 }
+        → ScansRest (longest_of first.0.search.query.patterns) first.0.span first.0.look_ups first.1 ended.1 }
     ensures each { (first last ended : MatchesValue × Counts) (all : List MatchValue)
-        → longest_of first.0.search.query.patterns ≤ LEAST
         → Yields GivesCounted first all last → GivesCounted last None ended
-        → first.1.scanned + first.0.span.end
-        ≤ ended.1.scanned + looked_upto first.0.search.query.patterns first.0.span first.0.known }
-    ensures whole { (first last ended : MatchesValue × Counts) (all : List MatchValue)
-        → first.0.at ≡ first.0.span.start → first.0.known ≡ first.0.span.start
-        → Yields GivesCounted first all last → GivesCounted last None ended
-        → (first.1.scanned + (first.0.span.end - first.0.span.start) ≤ ended.1.scanned)
-        × ScansListAtMost first.0.search.query.patterns (first.0.span.end - first.0.span.start) (length all) first.1
-        ended.1 }
+        → first.1.scanned + (first.0.span.end - first.0.span.start) ≤ ended.1.scanned + first.0.look_ups.least }
     ensures greedy { (first last ended : MatchesValue × Counts) (all : List MatchValue)
         → Yields GivesCounted first all last → GivesCounted last None ended
         → IsGreedyIn first.0.search.query first.0.search.ignore_case first.0.haystack
@@ -76,7 +66,8 @@ pub fn iterations_scan_at_most()
 /// If the bytes of a reader are known, the matches that an iteration over a stream has given begin the greedy list of
 /// these bytes (`so_far`). After its first `None`, without an error before it, they are that list (`whole`), and the
 /// iteration is past all bytes (`read`). After an error, no further match begins before the last bytes that were read,
-/// fewer than the longest pattern has (`failed`).
+/// fewer than the longest pattern has (`failed`). If its bytes are not known, the matches before the first `None` are
+/// the greedy list of all that was read (`all_read`).
 pub fn streams_are_greedy()
     ensures so_far { (search : SearchValue) (bytes : List ℕ) (last : StreamValue) (all more : List MatchValue)
         → Yields GivesStreamed (stream_of search (Some bytes)) (map Ok all) last
@@ -93,12 +84,17 @@ pub fn streams_are_greedy()
         → GivesStreamed last (Some (Err error)) ended → (i offset : ℕ)
         → Occurs search.query.patterns search.ignore_case bytes (rest_from bytes last.offset) i offset
         → ended.offset - (longest_of search.query.patterns - 1) ≤ offset }
+    ensures all_read { (search : SearchValue) (unread : Option (List ℕ)) (last ended : StreamValue)
+        (all : List MatchValue) → Yields GivesStreamed (stream_of search unread) (map Ok all) last
+        → GivesStreamed last None ended → (text : List ℕ) × Consumes unread ended.unread text
+        × (ended.offset ≡ length text) × IsGreedy search.query search.ignore_case text 0 all }
 {}
 
 /// The same of whole words: if the bytes of a reader are known, the words that an iteration over a stream has given
 /// begin the list of all whole words of these bytes (`so_far`). After its first `None`, without an error before it,
 /// they are that list (`whole`), and the iteration is past all bytes (`read`). After an error, no further whole word
-/// begins before the last bytes that were read, as many as the longest pattern has (`failed`).
+/// begins before the last bytes that were read, as many as the longest pattern has (`failed`). If the bytes are not
+/// known, the words before the first `None` are all whole words of all that was read (`all_read`).
 pub fn word_streams_are_whole_words()
     ensures so_far { (words : WholeWordsValue) (bytes : List ℕ) (last : WordStreamValue) (all more : List MatchValue)
         → Yields GivesWordStreamed (word_stream_of words (Some bytes)) (map Ok all) last
@@ -116,6 +112,10 @@ pub fn word_streams_are_whole_words()
         → OccursAlone words.search.query.patterns words.search.ignore_case words.word_bytes bytes
         (rest_from bytes last.stream.offset) i offset
         → ended.stream.offset - longest_of words.search.query.patterns ≤ offset }
+    ensures all_read { (words : WholeWordsValue) (unread : Option (List ℕ)) (last ended : WordStreamValue)
+        (all : List MatchValue) → Yields GivesWordStreamed (word_stream_of words unread) (map Ok all) last
+        → GivesWordStreamed last None ended → (text : List ℕ) × Consumes unread ended.stream.unread text
+        × (ended.stream.offset ≡ length text) × AreWholeWords words text (whole_of text) all }
 {}
 
 /// If the bytes of a reader are known, an iteration over every occurrence in a stream gives each of them once before

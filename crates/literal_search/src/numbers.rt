@@ -1,14 +1,16 @@
 //! The numbers of a search, as it keeps them.
-ghost use Rattle.std.specs.Prelude.{◌≡◌, ◌+◌, ◌-◌, ◌<◌, ◌≤◌, ◌^◌, ◌++◌, [], ℕ, IfOk, OnErr, false, length, map};
+ghost use Rattle.std.specs.Prelude.{◌≡◌, ◌+◌, ◌-◌, ◌<◌, ◌≤◌, ◌^◌, ◌++◌, [], ℕ, IfOk, OnErr, Some, length, map};
 ghost use Rattle.std.specs.Prelude.{slice_index};
-ghost use Rattle.literal_search.specs.Inside.Prepared.{IsPut, numbers_for};
+ghost use Rattle.literal_search.specs.Inside.Prepared.{IsPut, kind_number, numbers_for, version_for};
 ghost use Rattle.literal_search.specs.Prepared.{ArePrints, AreShort};
 ghost use Rattle.literal_search.specs.Inside.Kept.{numbers_kept};
 
 use crate::classes::Classes;
 use crate::prepared::{
-    ArrayTooShort, NO_LISTED, NO_PATTERN, SCAN_LEN, assemble, put_numbers, scan_numbers,
+    ArrayTooShort, NO_LISTED, NO_PATTERN, NO_PATTERN_LONGEST, SCAN_LEN, assemble, put_numbers,
+    scan_numbers,
 };
+use literal_base::packed::MatchKind;
 use literal_fingerprints::CandidateScan;
 use std::alloc::{AllocError, Global};
 use std::marker::Model;
@@ -18,8 +20,8 @@ use std::marker::Model;
 pub struct Numbers {
     /// Empty if there is no pattern.
     kept: Vec<u32>,
-    /// Whether lists follow the rows, for every occurrence.
-    listed: bool,
+    /// The match kind, or `None` for every occurrence.
+    kind: Option<MatchKind>,
 }
 
 impl Model for Numbers {
@@ -28,22 +30,22 @@ impl Model for Numbers {
 
     ghost Value = { List ℕ };
 
-    ghost view = { λ n. numbers_kept n.listed n.kept.items };
+    ghost view = { λ n. numbers_kept n.kind n.kept.items };
 }
 
 impl Numbers {
     /// The numbers for no pattern. They take no memory.
-    pub fn for_none(alloc: Global, listed: bool) -> Numbers
-        ensures { result ≡ numbers_kept listed [] }
+    pub fn for_none(alloc: Global, kind: Option<MatchKind>) -> Numbers
+        ensures { result ≡ numbers_kept kind [] }
     {
         let kept = Vec::new(alloc);
-        Numbers { kept, listed }
+        Numbers { kept, kind }
     }
 
-    /// The numbers of a search of this version, as [`assemble`] puts them together.
+    /// The numbers of a search by this match kind, or for every occurrence, as [`assemble`] puts them together.
     pub fn assembled(
         alloc: Global,
-        version: u32,
+        kind: Option<MatchKind>,
         classes: &Classes,
         patterns: &[Vec<u8>],
         rows: Vec<u32>,
@@ -58,24 +60,26 @@ impl Numbers {
         requires ends { length ends.now < 2 ^ 32 }
         requires inside { (i : ℕ) → slice_index starts.now i ≤ length ends.now }
         requires short { AreShort (map (λ pattern. pattern.items) patterns.now) }
-        ensures { IfOk result (λ numbers. numbers ≡ numbers_for version classes.now.table classes.now.width
-            (map (λ pattern. pattern.items) patterns.now) rows.items starts.now (ends.now ++ prints.now)) }
+        ensures { IfOk result (λ numbers. numbers ≡ numbers_for (version_for kind) (kind_number kind)
+            classes.now.table classes.now.width (map (λ pattern. pattern.items) patterns.now) rows.items starts.now
+            (ends.now ++ prints.now)) }
     {
-        let kept = assemble(
-            alloc, version, classes, patterns, rows, starts, ends, prints,
-        )?;
-        let listed = !starts.is_empty();
-        Ok(Numbers { kept, listed })
+        let kept = assemble(alloc, kind, classes, patterns, rows, starts, ends, prints)?;
+        Ok(Numbers { kept, kind })
     }
 
     /// The numbers.
     pub fn as_slice(&self) -> &[u32]
         ensures { result.now ≡ self.now }
     {
-        if self.kept.is_empty() {
-            return if self.listed { &NO_LISTED } else { &NO_PATTERN };
+        if !self.kept.is_empty() {
+            return &self.kept;
         }
-        &self.kept
+        match self.kind {
+            None => &NO_LISTED,
+            Some(MatchKind::LeftmostFirst) => &NO_PATTERN,
+            Some(MatchKind::LeftmostLongest) => &NO_PATTERN_LONGEST,
+        }
     }
 
     /// Writes the numbers into the first entries of an array, and returns how many they are.
@@ -91,19 +95,24 @@ impl Numbers {
         Ok(needed)
     }
 
-    /// A copy, for the same patterns, without lists. Allocates only if there is a pattern.
-    pub fn copy(&self, alloc: Global, patterns: &[Vec<u8>]) -> Result<Numbers, AllocError>
+    /// A copy, for the same patterns and match kind. Allocates only if there is a pattern.
+    pub fn copy(
+        &self,
+        alloc: Global,
+        kind: MatchKind,
+        patterns: &[Vec<u8>],
+    ) -> Result<Numbers, AllocError>
         ensures some { 0 < length patterns.now → IfOk result (λ copy. copy ≡ self.now) }
-        ensures none { length patterns.now ≡ 0 → IfOk result (λ copy. copy ≡ numbers_kept false []) }
+        ensures none { length patterns.now ≡ 0 → IfOk result (λ copy. copy ≡ numbers_kept (Some kind) []) }
         ensures no_memory { OnErr result (0 < length patterns.now) }
     {
         if patterns.is_empty() {
-            return Ok(Numbers::for_none(alloc, false));
+            return Ok(Numbers::for_none(alloc, Some(kind)));
         }
         let mut kept = Vec::new(alloc);
         kept.extend_from_slice(&self.kept)?;
-        let listed = self.listed;
-        Ok(Numbers { kept, listed })
+        let kind = self.kind;
+        Ok(Numbers { kept, kind })
     }
 }
 

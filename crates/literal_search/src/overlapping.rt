@@ -23,7 +23,7 @@ use crate::grow::{GrowError, grow};
 use crate::numbers::{Numbers, prints_for};
 use crate::patterns::Patterns;
 use crate::position::Position;
-use crate::prepared::{ArrayTooShort, OVERLAPPING_VERSION};
+use crate::prepared::ArrayTooShort;
 use crate::prepared_overlapping::{LentTables, lent_in};
 use crate::suffixes::Recognised;
 use crate::{BuildError, copies, shortest_len, total_bytes};
@@ -316,7 +316,7 @@ fn numbers_of(alloc: Global, ignore_case: bool, patterns: &[Vec<u8>]) -> Result<
     ensures some { OnErr result (0 < length patterns.now) }
 {
     if patterns.is_empty() {
-        return Ok(Numbers::for_none(alloc, true));
+        return Ok(Numbers::for_none(alloc, None));
     }
     let classes = classes_for(ignore_case, patterns);
     let rows = grow(alloc, &classes.table, classes.width, patterns)?;
@@ -332,10 +332,7 @@ fn numbers_of(alloc: Global, ignore_case: bool, patterns: &[Vec<u8>]) -> Result<
         return Err(GrowError::OutOfMemory);
     }
     let prints = prints_for(ignore_case, patterns);
-    let version = OVERLAPPING_VERSION;
-    let numbers = Numbers::assembled(
-        alloc, version, &classes, patterns, rows, starts, ends, &prints,
-    )?;
+    let numbers = Numbers::assembled(alloc, None, &classes, patterns, rows, starts, ends, &prints)?;
     Ok(numbers)
 }
 

@@ -9,7 +9,8 @@ ghost use Rattle.literal_search.specs.Prepared.{AreShort, HasParts};
 ghost use Rattle.literal_search.specs.Prepared.{check_of, check_with, joined_with, pair_of, past_skipped, scan_by};
 ghost use Rattle.literal_search.specs.Prepared.{short_of};
 ghost use Rattle.literal_search.specs.SearchValue.{longest_of};
-ghost use Rattle.literal_search.specs.Inside.Prepared.{IsHeader, Puts, numbers_for, header_table};
+ghost use Rattle.literal_search.specs.Inside.Prepared.{IsHeader, Puts, header_table, kind_number, numbers_for};
+ghost use Rattle.literal_search.specs.Inside.Prepared.{version_for};
 ghost use Rattle.literal_search.specs.Inside.Packed.{packed, unpacked};
 ghost use Rattle.literal_search.specs.Inside.Rows.{packed_classes};
 
@@ -17,6 +18,7 @@ use crate::classes::{CLASSES_LEN, Classes, PACKED_LEN};
 use crate::longest_len;
 use crate::walk::{NOTHING, Table};
 use literal_base::count::Tally;
+use literal_base::packed::MatchKind;
 use literal_base::{Match, Span};
 use literal_fingerprints::{
     BYTES, CandidateScan, Fingerprints, PAIR_BYTES, RarePair, SHORT_BYTES, ShortPattern,
@@ -28,15 +30,19 @@ use std::fmt;
 use std::marker::Model;
 
 /// The first number of a prepared search for leftmost matches.
-pub const PREPARED_VERSION: u32 = 0x4C50_000C;
+pub const PREPARED_VERSION: u32 = 0x4C50_000E;
 
 /// The first number of a prepared search for every occurrence.
-pub const OVERLAPPING_VERSION: u32 = 0x4C4F_000A;
+pub const OVERLAPPING_VERSION: u32 = 0x4C4F_000B;
 
-/// The index of the first pattern length. Before it are the version, the checksum, the width, the number of patterns,
-/// the number of numbers in the rows, and the length of the longest pattern. After the lengths come the rows, and the
-/// class of each byte.
-pub const LENGTHS_AT: usize = 6;
+/// The index of the number for the match kind: 1 for the longest, and 0 for the first, or for every occurrence. Before
+/// it are the version, the checksum, the width, the number of patterns, the number of numbers in the rows, and the
+/// length of the longest pattern.
+pub const KIND_AT: usize = 6;
+
+/// The index of the first pattern length. After the lengths come the rows, and the class of each byte, and then, in a
+/// search for leftmost matches, the link of each pattern.
+pub const LENGTHS_AT: usize = KIND_AT + 1;
 
 /// How many numbers describe a scan for candidates, after all others. The first is one more than the number of bytes
 /// that the scan skips, or 0 if there is no scan. The others hold the bytes of its fingerprints, its rare pair and its
@@ -49,26 +55,11 @@ const PAIR_AT: usize = 1 + BYTES / 4;
 /// The index among these of the first number of the short pattern.
 pub const SHORT_AT: usize = PAIR_AT + PAIR_BYTES / 4;
 
-/// The prepared search for leftmost matches of no pattern: [`PREPARED_VERSION`], its checksum, one class, no pattern,
-/// two numbers in the rows, and the longest length 0. Then come the row of the only state, which its one class leads to
-/// and where no pattern ends, this class for each byte, and no scan for candidates.
-pub const NO_PATTERN: [u32; 304] = [
-    0x4C50000C, 0xB0191C22, 1, 0, 2, 0, 0, NOTHING, 0, 0, 0, 0, 0, 0, 0, 0, 0, 0, 0, 0, 0, 0, 0, 0,
-    0, 0, 0, 0, 0, 0, 0, 0, 0, 0, 0, 0, 0, 0, 0, 0, 0, 0, 0, 0, 0, 0, 0, 0, 0, 0, 0, 0, 0, 0, 0, 0,
-    0, 0, 0, 0, 0, 0, 0, 0, 0, 0, 0, 0, 0, 0, 0, 0, 0, 0, 0, 0, 0, 0, 0, 0, 0, 0, 0, 0, 0, 0, 0, 0,
-    0, 0, 0, 0, 0, 0, 0, 0, 0, 0, 0, 0, 0, 0, 0, 0, 0, 0, 0, 0, 0, 0, 0, 0, 0, 0, 0, 0, 0, 0, 0, 0,
-    0, 0, 0, 0, 0, 0, 0, 0, 0, 0, 0, 0, 0, 0, 0, 0, 0, 0, 0, 0, 0, 0, 0, 0, 0, 0, 0, 0, 0, 0, 0, 0,
-    0, 0, 0, 0, 0, 0, 0, 0, 0, 0, 0, 0, 0, 0, 0, 0, 0, 0, 0, 0, 0, 0, 0, 0, 0, 0, 0, 0, 0, 0, 0, 0,
-    0, 0, 0, 0, 0, 0, 0, 0, 0, 0, 0, 0, 0, 0, 0, 0, 0, 0, 0, 0, 0, 0, 0, 0, 0, 0, 0, 0, 0, 0, 0, 0,
-    0, 0, 0, 0, 0, 0, 0, 0, 0, 0, 0, 0, 0, 0, 0, 0, 0, 0, 0, 0, 0, 0, 0, 0, 0, 0, 0, 0, 0, 0, 0, 0,
-    0, 0, 0, 0, 0, 0, 0, 0, 0, 0, 0, 0, 0, 0, 0, 0, 0, 0, 0, 0, 0, 0, 0, 0, 0, 0, 0, 0, 0, 0, 0, 0,
-    0, 0, 0, 0, 0, 0, 0, 0, 0, 0, 0, 0, 0, 0, 0, 0, 0, 0, 0, 0, 0, 0, 0, 0,
-];
-
-/// The prepared search for every occurrence of no pattern: [`OVERLAPPING_VERSION`], its checksum, and the numbers of
-/// [`NO_PATTERN`], with one more for the end of the empty list of lists.
-pub const NO_LISTED: [u32; 305] = [
-    0x4C4F000A, 0xE1A1BED8, 1, 0, 2, 0, 0, NOTHING, 0, 0, 0, 0, 0, 0, 0, 0, 0, 0, 0, 0, 0, 0, 0, 0,
+/// The prepared search for leftmost matches of no pattern, by the first kind: [`PREPARED_VERSION`], its checksum, one
+/// class, no pattern, two numbers in the rows, the longest length 0, and 0 for the kind. Then come the row of the only
+/// state, which its one class leads to and where no pattern ends, this class for each byte, and no scan for candidates.
+pub const NO_PATTERN: [u32; 305] = [
+    0x4C50000E, 0x350E0A86, 1, 0, 2, 0, 0, 0, NOTHING, 0, 0, 0, 0, 0, 0, 0, 0, 0, 0, 0, 0, 0, 0, 0,
     0, 0, 0, 0, 0, 0, 0, 0, 0, 0, 0, 0, 0, 0, 0, 0, 0, 0, 0, 0, 0, 0, 0, 0, 0, 0, 0, 0, 0, 0, 0, 0,
     0, 0, 0, 0, 0, 0, 0, 0, 0, 0, 0, 0, 0, 0, 0, 0, 0, 0, 0, 0, 0, 0, 0, 0, 0, 0, 0, 0, 0, 0, 0, 0,
     0, 0, 0, 0, 0, 0, 0, 0, 0, 0, 0, 0, 0, 0, 0, 0, 0, 0, 0, 0, 0, 0, 0, 0, 0, 0, 0, 0, 0, 0, 0, 0,
@@ -78,6 +69,35 @@ pub const NO_LISTED: [u32; 305] = [
     0, 0, 0, 0, 0, 0, 0, 0, 0, 0, 0, 0, 0, 0, 0, 0, 0, 0, 0, 0, 0, 0, 0, 0, 0, 0, 0, 0, 0, 0, 0, 0,
     0, 0, 0, 0, 0, 0, 0, 0, 0, 0, 0, 0, 0, 0, 0, 0, 0, 0, 0, 0, 0, 0, 0, 0, 0, 0, 0, 0, 0, 0, 0, 0,
     0, 0, 0, 0, 0, 0, 0, 0, 0, 0, 0, 0, 0, 0, 0, 0, 0, 0, 0, 0, 0, 0, 0, 0, 0,
+];
+
+/// The same by the longest kind: other numbers are the kind and the checksum.
+pub const NO_PATTERN_LONGEST: [u32; 305] = [
+    0x4C50000E, 0xEBB8C9FB, 1, 0, 2, 0, 1, 0, NOTHING, 0, 0, 0, 0, 0, 0, 0, 0, 0, 0, 0, 0, 0, 0, 0,
+    0, 0, 0, 0, 0, 0, 0, 0, 0, 0, 0, 0, 0, 0, 0, 0, 0, 0, 0, 0, 0, 0, 0, 0, 0, 0, 0, 0, 0, 0, 0, 0,
+    0, 0, 0, 0, 0, 0, 0, 0, 0, 0, 0, 0, 0, 0, 0, 0, 0, 0, 0, 0, 0, 0, 0, 0, 0, 0, 0, 0, 0, 0, 0, 0,
+    0, 0, 0, 0, 0, 0, 0, 0, 0, 0, 0, 0, 0, 0, 0, 0, 0, 0, 0, 0, 0, 0, 0, 0, 0, 0, 0, 0, 0, 0, 0, 0,
+    0, 0, 0, 0, 0, 0, 0, 0, 0, 0, 0, 0, 0, 0, 0, 0, 0, 0, 0, 0, 0, 0, 0, 0, 0, 0, 0, 0, 0, 0, 0, 0,
+    0, 0, 0, 0, 0, 0, 0, 0, 0, 0, 0, 0, 0, 0, 0, 0, 0, 0, 0, 0, 0, 0, 0, 0, 0, 0, 0, 0, 0, 0, 0, 0,
+    0, 0, 0, 0, 0, 0, 0, 0, 0, 0, 0, 0, 0, 0, 0, 0, 0, 0, 0, 0, 0, 0, 0, 0, 0, 0, 0, 0, 0, 0, 0, 0,
+    0, 0, 0, 0, 0, 0, 0, 0, 0, 0, 0, 0, 0, 0, 0, 0, 0, 0, 0, 0, 0, 0, 0, 0, 0, 0, 0, 0, 0, 0, 0, 0,
+    0, 0, 0, 0, 0, 0, 0, 0, 0, 0, 0, 0, 0, 0, 0, 0, 0, 0, 0, 0, 0, 0, 0, 0, 0, 0, 0, 0, 0, 0, 0, 0,
+    0, 0, 0, 0, 0, 0, 0, 0, 0, 0, 0, 0, 0, 0, 0, 0, 0, 0, 0, 0, 0, 0, 0, 0, 0,
+];
+
+/// The prepared search for every occurrence of no pattern: [`OVERLAPPING_VERSION`], its checksum, and the numbers of
+/// [`NO_PATTERN`], with one more for the end of the empty list of lists.
+pub const NO_LISTED: [u32; 306] = [
+    0x4C4F000B, 0x9A40C3C2, 1, 0, 2, 0, 0, 0, NOTHING, 0, 0, 0, 0, 0, 0, 0, 0, 0, 0, 0, 0, 0, 0, 0,
+    0, 0, 0, 0, 0, 0, 0, 0, 0, 0, 0, 0, 0, 0, 0, 0, 0, 0, 0, 0, 0, 0, 0, 0, 0, 0, 0, 0, 0, 0, 0, 0,
+    0, 0, 0, 0, 0, 0, 0, 0, 0, 0, 0, 0, 0, 0, 0, 0, 0, 0, 0, 0, 0, 0, 0, 0, 0, 0, 0, 0, 0, 0, 0, 0,
+    0, 0, 0, 0, 0, 0, 0, 0, 0, 0, 0, 0, 0, 0, 0, 0, 0, 0, 0, 0, 0, 0, 0, 0, 0, 0, 0, 0, 0, 0, 0, 0,
+    0, 0, 0, 0, 0, 0, 0, 0, 0, 0, 0, 0, 0, 0, 0, 0, 0, 0, 0, 0, 0, 0, 0, 0, 0, 0, 0, 0, 0, 0, 0, 0,
+    0, 0, 0, 0, 0, 0, 0, 0, 0, 0, 0, 0, 0, 0, 0, 0, 0, 0, 0, 0, 0, 0, 0, 0, 0, 0, 0, 0, 0, 0, 0, 0,
+    0, 0, 0, 0, 0, 0, 0, 0, 0, 0, 0, 0, 0, 0, 0, 0, 0, 0, 0, 0, 0, 0, 0, 0, 0, 0, 0, 0, 0, 0, 0, 0,
+    0, 0, 0, 0, 0, 0, 0, 0, 0, 0, 0, 0, 0, 0, 0, 0, 0, 0, 0, 0, 0, 0, 0, 0, 0, 0, 0, 0, 0, 0, 0, 0,
+    0, 0, 0, 0, 0, 0, 0, 0, 0, 0, 0, 0, 0, 0, 0, 0, 0, 0, 0, 0, 0, 0, 0, 0, 0, 0, 0, 0, 0, 0, 0, 0,
+    0, 0, 0, 0, 0, 0, 0, 0, 0, 0, 0, 0, 0, 0, 0, 0, 0, 0, 0, 0, 0, 0, 0, 0, 0, 0,
 ];
 
 /// The start of the first of the four checksums; the others start at 0. It is not zero, so that zeros do not have the
@@ -124,6 +144,26 @@ impl fmt::Display for Damaged {
 }
 
 impl Error for Damaged {}
+
+/// The first number of a search by this match kind, or of one for every occurrence, which has none.
+fn version_for(kind: Option<MatchKind>) -> u32
+    ensures { result ≡ version_for kind }
+{
+    match kind {
+        None => OVERLAPPING_VERSION,
+        Some(_) => PREPARED_VERSION,
+    }
+}
+
+/// The number for the match kind.
+fn kind_number(kind: Option<MatchKind>) -> u32
+    ensures { result ≡ kind_number kind }
+{
+    match kind {
+        Some(MatchKind::LeftmostLongest) => 1,
+        _ => 0,
+    }
+}
 
 /// The parts of an array that begins as a prepared search does.
 #[derive(Clone, Copy)]
@@ -318,7 +358,7 @@ pub(crate) fn unpack(numbers: &[u32], bytes: &mut [u8])
 /// candidates come last.
 pub fn assemble(
     alloc: Global,
-    version: u32,
+    kind: Option<MatchKind>,
     classes: &Classes,
     patterns: &[Vec<u8>],
     rows: Vec<u32>,
@@ -333,11 +373,12 @@ pub fn assemble(
     requires ends { length ends.now < 2 ^ 32 }
     requires inside { (i : ℕ) → slice_index starts.now i ≤ length ends.now }
     requires short { AreShort (map (λ pattern. pattern.items) patterns.now) }
-    ensures { IfOk result (λ numbers. numbers.items ≡ numbers_for version classes.now.table classes.now.width
-        (map (λ pattern. pattern.items) patterns.now) rows.items starts.now (ends.now ++ prints.now)) }
+    ensures { IfOk result (λ numbers. numbers.items ≡ numbers_for (version_for kind) (kind_number kind)
+        classes.now.table classes.now.width (map (λ pattern. pattern.items) patterns.now) rows.items starts.now
+        (ends.now ++ prints.now)) }
 {
     let (width, rows_len) = (classes.width as u32, rows.len() as u32);
-    let header = header_for(alloc, version, width, rows_len, patterns)?;
+    let header = header_for(alloc, kind, width, rows_len, patterns)?;
     let mut numbers = rows;
     numbers.reserve_exact(header.len() + CLASSES_LEN + starts.len() + ends.len() + SCAN_LEN)?;
     let none = numbers.splice(0..0, header)?;
@@ -354,19 +395,20 @@ pub fn assemble(
 /// The numbers before the rows, with 0 for the checksum.
 fn header_for(
     alloc: Global,
-    version: u32,
+    kind: Option<MatchKind>,
     width: u32,
     rows_len: u32,
     patterns: &[Vec<u8>],
 ) -> Result<Vec<u32>, AllocError>
     requires patterns { length patterns.now < 2 ^ 32 }
     requires short { AreShort (map (λ pattern. pattern.items) patterns.now) }
-    ensures { IfOk result (λ header. header.items ≡ version ∷ 0 ∷ width ∷ length patterns.now ∷ rows_len
-        ∷ longest_of (map (λ pattern. pattern.items) patterns.now)
+    ensures { IfOk result (λ header. header.items ≡ version_for kind ∷ 0 ∷ width ∷ length patterns.now
+        ∷ rows_len ∷ longest_of (map (λ pattern. pattern.items) patterns.now) ∷ kind_number kind
         ∷ map (λ pattern. length pattern.items) patterns.now) }
 {
     let (count, longest) = (patterns.len() as u32, longest_len(patterns) as u32);
-    let mut header = Vec::from_slice(alloc, &[version, 0, width, count, rows_len, longest])?;
+    let (version, kind) = (version_for(kind), kind_number(kind));
+    let mut header = Vec::from_slice(alloc, &[version, 0, width, count, rows_len, longest, kind])?;
     for pattern in patterns {
         header.push(pattern.len() as u32)?;
     }

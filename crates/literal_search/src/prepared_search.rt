@@ -4,18 +4,23 @@ ghost use Rattle.std.specs.Prelude.{◌≡◌, ◌+◌, ◌-◌, ◌*◌, ◌<�
 ghost use Rattle.std.specs.Prelude.{IfOk, IfSome, IsTrue, MatchResult, None};
 ghost use Rattle.std.specs.Result.{IsOkAnd};
 ghost use Rattle.literal_base.specs.Occurs.{IsValidSpan, between};
-ghost use Rattle.literal_search.specs.SearchValue.{LooksFor, ScansNext, looked_by};
+ghost use Rattle.literal_search.specs.LookUps.{LooksOn, ScansNext, ScansRest, no_look_ups};
+ghost use Rattle.literal_search.specs.SearchValue.{LooksFor};
 ghost use Rattle.literal_base.specs.Leftmost.{IsLeftmost};
 ghost use Rattle.literal_search.specs.MatchesValue.{GivesMatch, offset_at_end};
 ghost use Rattle.literal_search.specs.Prepared.{LiesIn, longest_in};
-ghost use Rattle.literal_search.specs.Prepared.{ForPrepared, HasAllParts, IsWhole, matches_for};
+ghost use Rattle.literal_search.specs.Prepared.{ForPrepared, HasAllParts, IsWhole, kind_in, matches_for};
 ghost use Rattle.literal_search.specs.Inside.Prepared.{IsBackIn};
 
-use crate::backward::{Backward, Continuation, LEAST, Marks, no_marks, offset_after};
+use crate::backward::{Backward, Continuation};
 use crate::classes::CLASSES_LEN;
-use crate::prepared::{Damaged, LENGTHS_AT, PREPARED_VERSION, SCAN_LEN, is_checked, split};
+use crate::cursor::Cursor;
+use crate::prepared::{
+    Damaged, KIND_AT, LENGTHS_AT, PREPARED_VERSION, SCAN_LEN, is_checked, split,
+};
 use crate::walk::Table;
 use literal_base::count::Tally;
+use literal_base::packed::MatchKind;
 use literal_base::{Match, Span};
 use std::marker::Model;
 
@@ -60,10 +65,21 @@ impl<'p> Prepared<'p> {
         let Backward {
             table,
             lens,
+            links,
             prints,
         } = &self.backward;
-        let end = LENGTHS_AT + lens.len() + table.rows.len() + prints.len();
+        let end = LENGTHS_AT + lens.len() + table.rows.len() + links.len() + prints.len();
         is_checked(self.numbers, end)
+    }
+
+    /// Returns the match kind, as the array says.
+    pub fn match_kind(&self) -> MatchKind
+        ensures { result ≡ kind_in self.now }
+    {
+        if self.numbers[KIND_AT] == 0 {
+            return MatchKind::LeftmostFirst;
+        }
+        MatchKind::LeftmostLongest
     }
 
     /// Returns the length in bytes of the longest pattern, as the array says.
@@ -87,18 +103,19 @@ impl<'p> Prepared<'p> {
           haystack = haystack.now;
           span = span;
           at = span.start;
-          known = span.start;
+          look_ups = no_look_ups;
         } }
     {
         prove!(span.end <= haystack.len());
-        PreparedMatches {
+        let mut matches = PreparedMatches {
             prepared: self,
             haystack,
             span,
-            at: span.start,
-            numbers: [0; LEAST],
-            marks: no_marks(span.start),
-        }
+            cursor: Cursor::new(span.start),
+        };
+        let longest = self.backward().table.longest;
+        matches.cursor.make_room(longest, span);
+        matches
     }
 
     /// Returns the leftmost match in a span of the haystack, as [`Search::find_in`](crate::Search::find_in) does. With
@@ -153,7 +170,8 @@ pub(crate) fn backward_in(numbers: &[u32]) -> Result<Backward<'_>, Damaged>
     ensures { MatchResult result (IsBackIn numbers.now) (λ _. ¬ HasAllParts numbers.now) }
 {
     let header = split(numbers, PREPARED_VERSION)?;
-    let prints_at = LENGTHS_AT + header.lengths.len() + header.rows.len();
+    let links_at = LENGTHS_AT + header.lengths.len() + header.rows.len();
+    let prints_at = links_at + header.lengths.len();
     let is_short = numbers.len() < prints_at + SCAN_LEN;
     if is_short || header.rows.len() == CLASSES_LEN {
         return Err(Damaged);
@@ -167,26 +185,26 @@ pub(crate) fn backward_in(numbers: &[u32]) -> Result<Backward<'_>, Damaged>
     Ok(Backward {
         table,
         lens: header.lengths,
+        links: &numbers[links_at..prints_at],
         prints: &numbers[prints_at..prints_at + SCAN_LEN],
     })
 }
 
 /// The iterator of [`Prepared::find_iter_in`]. Contracts see the array, the haystack, the span, the offset from which
-/// it continues, and the offset up to which it has looked. After [`Damaged`] or its first `None` it has ended, at the
-/// end of the span.
+/// it continues, and bounds on the bytes that it has looked up so far. After [`Damaged`] or its first `None` it has
+/// ended, at the end of the span.
 #[derive(Drop)]
 pub struct PreparedMatches<'s, 'p, 'h> {
     prepared: &'s Prepared<'p>,
     haystack: &'h [u8],
     span: Span,
-    at: usize,
-    numbers: [u32; LEAST],
-    marks: Marks,
+    cursor: Cursor,
 }
 
 impl<'s, 'p, 'h> Model for PreparedMatches<'s, 'p, 'h> {
     ghost use Rattle.literal_base.specs.Occurs.{IsValidSpan};
-    ghost use Rattle.literal_search.specs.Prepared.{PreparedMatchesValue};
+    ghost use Rattle.literal_search.specs.Prepared.{PreparedMatchesValue, longest_in};
+    ghost use Rattle.literal_search.specs.Inside.Cursor.{look_ups_of};
     ghost use Rattle.literal_search.specs.Inside.Prepared.{GoesOnBy};
 
     ghost Value = { PreparedMatchesValue };
@@ -195,12 +213,12 @@ impl<'s, 'p, 'h> Model for PreparedMatches<'s, 'p, 'h> {
       numbers = m.prepared.now;
       haystack = m.haystack.now;
       span = m.span;
-      at = m.at;
-      known = m.marks.known;
+      at = m.cursor.at;
+      look_ups = look_ups_of (longest_in m.prepared.now) m.span m.cursor;
     } };
 
     ghost invariant = { λ m. IsValidSpan m.haystack.now m.span
-        × GoesOnBy m.prepared.now m.haystack.now m.span m.at m.numbers m.marks };
+        × GoesOnBy m.prepared.now m.haystack.now m.span m.cursor };
 }
 
 impl<'s, 'p, 'h> PreparedMatches<'s, 'p, 'h> {
@@ -213,16 +231,15 @@ impl<'s, 'p, 'h> PreparedMatches<'s, 'p, 'h> {
         ensures pattern { IfOk result (λ answer. IfSome answer
             (λ found. found.pattern < slice_index self.old.numbers 3)) }
         ensures goes_on { MatchResult result (λ answer. self.new.at ≡ offset_at_end self.old.span answer)
-            (λ _. (self.new.at ≡ self.old.span.end) × (self.new.known ≡ self.old.span.end)) }
+            (λ _. self.new.at ≡ self.old.span.end) }
         ensures ended { self.old.at ≡ self.old.span.end → IsOkAnd result (λ answer. answer ≡ None) }
-        ensures same { self.new ≡ record self.old { at = self.new.at; known = self.new.known } }
+        ensures same { self.new ≡ record self.old { at = self.new.at; look_ups = self.new.look_ups } }
     {
         self.next_counted(&mut Tally::new())
     }
 
-    /// Like `next_match`, and counts in the tally as [`Matches::next_counted`](crate::Matches::next_counted) does. If
-    /// the array says that no pattern has more than 1,024 bytes, an iteration looks up at most three times the bytes of
-    /// the span, whatever the other numbers are.
+    /// Like `next_match`, and counts in the tally as [`Matches::next_counted`](crate::Matches::next_counted) does, with
+    /// the longest pattern length that the array gives, whatever its other numbers are.
     pub fn next_counted(&mut self, tally: &mut Tally) -> Result<Option<Match>, Damaged>
         ensures prepared { ForPrepared self.old.numbers (λ search. IsOkAnd result (λ answer.
             GivesMatch (matches_for search self.old) answer (matches_for search self.new))) }
@@ -230,35 +247,19 @@ impl<'s, 'p, 'h> PreparedMatches<'s, 'p, 'h> {
         ensures pattern { IfOk result (λ answer. IfSome answer
             (λ found. found.pattern < slice_index self.old.numbers 3)) }
         ensures goes_on { MatchResult result (λ answer. self.new.at ≡ offset_at_end self.old.span answer)
-            (λ _. (self.new.at ≡ self.old.span.end) × (self.new.known ≡ self.old.span.end)) }
+            (λ _. self.new.at ≡ self.old.span.end) }
         ensures ended { self.old.at ≡ self.old.span.end → IsOkAnd result (λ answer. answer ≡ None) }
-        ensures same { self.new ≡ record self.old { at = self.new.at; known = self.new.known } }
-        ensures further { (self.old.known ≤ self.new.known) × (self.new.known ≤ self.old.span.end) }
-        ensures others { tally.new ≡ record tally.old { scanned = tally.new.scanned } }
-        ensures most { tally.new.scanned ≤ tally.old.scanned + 3 * (self.old.span.end - self.old.known) }
-        ensures looked { IfOk result (λ answer. offset_at_end self.old.span answer
-            ≤ looked_by (longest_in self.old.numbers) self.old.span self.new.known) }
-        ensures scans { IfOk result (λ answer. ScansNext (longest_in self.old.numbers) self.old.span self.old.at
-            self.old.known self.new.known answer tally.old tally.new) }
+        ensures same { self.new ≡ record self.old { at = self.new.at; look_ups = self.new.look_ups } }
+        ensures looks { IfOk result (λ _. LooksOn (longest_in self.old.numbers) self.old.span self.new.at
+            self.old.look_ups self.new.look_ups) }
+        ensures scans { IfOk result (λ _. ScansNext self.old.look_ups self.new.look_ups tally.old tally.new) }
+        ensures rest { ScansRest (longest_in self.old.numbers) self.old.span self.old.look_ups tally.old tally.new }
     {
-        let (span, backward) = (self.span, self.prepared.backward());
-        let answer = backward.next_in(
-            self.haystack,
-            span,
-            self.at,
-            Continuation::AtEnd,
-            &mut self.numbers,
-            &mut self.marks,
-            tally,
-        );
-        match answer {
-            Ok(answer) => {
-                self.at = offset_after(Continuation::AtEnd, span, &answer);
-                Ok(answer)
-            }
+        let (backward, on) = (self.prepared.backward(), Continuation::AtEnd);
+        match backward.next_in(self.haystack, self.span, on, &mut self.cursor, tally) {
+            Ok(answer) => Ok(answer),
             Err(_) => {
-                self.at = span.end;
-                self.marks = no_marks(span.end);
+                self.cursor.end(self.span);
                 Err(Damaged)
             }
         }

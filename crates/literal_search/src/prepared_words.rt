@@ -4,15 +4,18 @@ ghost use Rattle.std.specs.Prelude.{◌≡◌, ◌<◌, ◌≤◌, IfOk, IfSome,
 ghost use Rattle.std.specs.Result.{IsOkAnd};
 ghost use Rattle.literal_base.specs.Occurs.{IsValidSpan, between};
 ghost use Rattle.literal_search.specs.MatchesValue.{offset_after_start, offset_at_end};
-ghost use Rattle.literal_search.specs.Prepared.{LiesIn, longest_in};
+ghost use Rattle.literal_base.specs.declared.packed.MatchKind.TheVariants.{LeftmostFirst, LeftmostLongest};
+ghost use Rattle.literal_search.specs.Prepared.{LiesIn, kind_in, longest_in};
 ghost use Rattle.literal_search.specs.PreparedWords.{ForWholeWords, word_matches_by};
 ghost use Rattle.literal_search.specs.WholeWords.{GivesWholeWord, GivesWholeWordBy, IsFirstAlone, IsFirstAloneBy};
-ghost use Rattle.literal_search.specs.WholeWords.{ScansFirstWordBy, ScansWordsAtMost, ScansWordsBy};
+ghost use Rattle.literal_search.specs.LookUps.{LooksOn, no_look_ups};
+ghost use Rattle.literal_search.specs.WholeWords.{ScansFirstWordBy, ScansWordsBy, ScansWordsRest};
 
 use crate::backward::{Continuation, offset_after};
+use crate::cursor::Cursor;
 use crate::prepared::Damaged;
 use crate::prepared_search::Prepared;
-use crate::word_search::{KnownStarts, Words};
+use crate::word_search::Words;
 use literal_base::alphabet::ByteSet;
 use literal_base::count::Tally;
 use literal_base::packed::MatchKind;
@@ -21,9 +24,9 @@ use std::marker::Model;
 
 /// Searches for whole words by an array that [`Search::prepare`](crate::Search::prepare) wrote. It answers as
 /// [`WholeWords`](crate::WholeWords) does. The search that wrote the array has to have [`MatchKind::LeftmostLongest`],
-/// whatever the match kind of the words is. With an array of the other kind, or a changed one, the answer may be
-/// another match, none, or [`Damaged`]; but each match lies in the span, is not empty, and names one of the patterns.
-/// Contracts see the match kind, the array, and which bytes are word bytes.
+/// whatever the match kind of the words is. With a changed array the answer may be another match, none, or
+/// [`Damaged`]; but each match lies in the span, is not empty, and names one of the patterns. Contracts see the match
+/// kind, the array, and which bytes are word bytes.
 ///
 /// ```rust
 /// let patterns = [b"york".as_slice()];
@@ -31,7 +34,7 @@ use std::marker::Model;
 /// let mut array = vec![in alloc; 0; search.prepared_len()]?;
 /// search.prepare(&mut array)?;
 /// let set = WholeWords::ascii_word_bytes();
-/// let words = PreparedWords::new(Prepared::new(&array)?, MatchKind::LeftmostFirst, set);
+/// let words = PreparedWords::new(Prepared::new(&array)?, MatchKind::LeftmostFirst, set)?;
 /// let found = words.find_in(b"Yorkers, York", Span { start: 0, end: 13 })?;
 /// assert!(rt; found == Some(Match::must(0, Span { start: 9, end: 13 })));
 /// ```
@@ -51,15 +54,25 @@ impl<'p> Model for PreparedWords<'p> {
 }
 
 impl<'p> PreparedWords<'p> {
-    /// Returns the search for whole words by a prepared search, with this match kind and these word bytes.
-    pub fn new(prepared: Prepared<'p>, kind: MatchKind, word_bytes: ByteSet) -> PreparedWords<'p>
-        ensures { result ≡ record { kind = kind; numbers = prepared.entry; word_bytes = word_bytes } }
+    /// Returns the search for whole words by a prepared search, with this match kind and these word bytes; or
+    /// [`Damaged`] if the array says that it was written by a search of the other kind than the longest.
+    pub fn new(
+        prepared: Prepared<'p>,
+        kind: MatchKind,
+        word_bytes: ByteSet,
+    ) -> Result<PreparedWords<'p>, Damaged>
+        ensures { MatchResult result
+            (λ words. (words ≡ record { kind = kind; numbers = prepared.entry; word_bytes = word_bytes })
+            × (kind_in prepared.entry ≡ LeftmostLongest)) (λ _. kind_in prepared.entry ≡ LeftmostFirst) }
     {
-        PreparedWords {
+        if prepared.match_kind() == MatchKind::LeftmostFirst {
+            return Err(Damaged);
+        }
+        Ok(PreparedWords {
             kind,
             prepared,
             word_bytes,
-        }
+        })
     }
 
     /// Returns the leftmost whole word in a span of the haystack, as
@@ -90,8 +103,7 @@ impl<'p> PreparedWords<'p> {
             (λ found. found.pattern < slice_index self.now.numbers 3)) }
         ensures bounded { IfOk result (λ answer. ScansFirstWordBy (longest_in self.now.numbers) span answer
             tally.old tally.new) }
-        ensures most { ScansWordsAtMost (longest_in self.now.numbers) span span.start span.end span.start span.end
-            tally.old tally.new }
+        ensures rest { ScansWordsRest (longest_in self.now.numbers) span span.start no_look_ups tally.old tally.new }
     {
         self.find_in_by_sides_counted(haystack, haystack, span, tally)
     }
@@ -110,7 +122,7 @@ impl<'p> PreparedWords<'p> {
           span = span;
           at = span.start;
           from = span.start;
-          known = span.start;
+          look_ups = no_look_ups;
         } }
     {
         PreparedWordMatches {
@@ -155,8 +167,7 @@ impl<'p> PreparedWords<'p> {
             (λ found. found.pattern < slice_index self.now.numbers 3)) }
         ensures bounded { IfOk result (λ answer. ScansFirstWordBy (longest_in self.now.numbers) span answer
             tally.old tally.new) }
-        ensures most { ScansWordsAtMost (longest_in self.now.numbers) span span.start span.end span.start span.end
-            tally.old tally.new }
+        ensures rest { ScansWordsRest (longest_in self.now.numbers) span span.start no_look_ups tally.old tally.new }
     {
         let words = Words::new(self.kind, *self.prepared.backward(), self.word_bytes);
         words.find_in(haystack, sides, span, tally)
@@ -179,26 +190,30 @@ impl<'p> PreparedWords<'p> {
             span = span;
             at = span.start;
             from = span.start;
-            known = span.start;
+            look_ups = no_look_ups;
           };
           sides = sides.now;
         } }
     {
-        PreparedWordMatchesBySides {
+        let words = Words::new(self.kind, *self.prepared.backward(), self.word_bytes);
+        let longest = words.backward.table.longest;
+        let mut matches = PreparedWordMatchesBySides {
             prepared: self,
-            words: Words::new(self.kind, *self.prepared.backward(), self.word_bytes),
+            words,
             haystack,
             sides,
             span,
             at: span.start,
-            starts: KnownStarts::new(span.start),
-        }
+            starts: Cursor::new(span.start),
+        };
+        matches.starts.make_room(longest, span);
+        matches
     }
 }
 
 /// The iterator of [`PreparedWords::find_iter_in`]. Contracts see the search, the haystack, the span, the offset from
-/// which it continues, the offset from which it looks for the next pattern, and the offset up to which it has looked.
-/// After [`Damaged`] or its first `None`, the first two of these offsets are the end of the span, and it has ended.
+/// which it continues, the offset from which it looks for the next pattern, and bounds on the bytes that it has looked
+/// up. After [`Damaged`] or its first `None`, the first two of these offsets are the end of the span, and it has ended.
 #[derive(Drop)]
 pub struct PreparedWordMatches<'s, 'p, 'h> {
     matches: PreparedWordMatchesBySides<'s, 'p, 'h>,
@@ -231,7 +246,7 @@ impl<'s, 'p, 'h> PreparedWordMatches<'s, 'p, 'h> {
             (λ _. (self.new.at ≡ self.old.span.end) × (self.new.from ≡ self.old.span.end)) }
         ensures ended { self.old.from ≡ self.old.span.end → IsOkAnd result (λ answer. answer ≡ None) }
         ensures same { self.new
-            ≡ record self.old { at = self.new.at; from = self.new.from; known = self.new.known } }
+            ≡ record self.old { at = self.new.at; from = self.new.from; look_ups = self.new.look_ups } }
     {
         self.next_counted(&mut Tally::new())
     }
@@ -250,12 +265,13 @@ impl<'s, 'p, 'h> PreparedWordMatches<'s, 'p, 'h> {
             (λ _. (self.new.at ≡ self.old.span.end) × (self.new.from ≡ self.old.span.end)) }
         ensures ended { self.old.from ≡ self.old.span.end → IsOkAnd result (λ answer. answer ≡ None) }
         ensures same { self.new
-            ≡ record self.old { at = self.new.at; from = self.new.from; known = self.new.known } }
-        ensures further { (self.old.known ≤ self.new.known) × (self.new.known ≤ self.old.span.end) }
-        ensures scans { IfOk result (λ _. ScansWordsBy (longest_in self.old.words.numbers) self.old.span self.old.from
-            self.new.from self.old.known self.new.known tally.old tally.new) }
-        ensures most { ScansWordsAtMost (longest_in self.old.words.numbers) self.old.span self.old.from self.new.from
-            self.old.known self.new.known tally.old tally.new }
+            ≡ record self.old { at = self.new.at; from = self.new.from; look_ups = self.new.look_ups } }
+        ensures looks { IfOk result (λ _. LooksOn (longest_in self.old.words.numbers) self.old.span self.new.from
+            self.old.look_ups self.new.look_ups) }
+        ensures scans { IfOk result (λ _. ScansWordsBy (longest_in self.old.words.numbers) self.old.from self.new.from
+            self.old.look_ups self.new.look_ups tally.old tally.new) }
+        ensures rest { ScansWordsRest (longest_in self.old.words.numbers) self.old.span self.old.from
+            self.old.look_ups tally.old tally.new }
     {
         self.matches.next_counted(tally)
     }
@@ -271,13 +287,13 @@ pub struct PreparedWordMatchesBySides<'s, 'p, 'h> {
     sides: &'h [u8],
     span: Span,
     at: usize,
-    starts: KnownStarts,
+    starts: Cursor,
 }
 
 impl<'s, 'p, 'h> Model for PreparedWordMatchesBySides<'s, 'p, 'h> {
     ghost use Rattle.std.specs.Prelude.{◌≡◌, ◌≤◌, length};
     ghost use Rattle.literal_search.specs.PreparedWords.{PreparedWordMatchesBySidesValue};
-    ghost use Rattle.literal_search.specs.Inside.WholeWords.{AreKnownStarts, AreWordsIn};
+    ghost use Rattle.literal_search.specs.Inside.WholeWords.{AreKnownStarts, AreWordsIn, starts_looked_up};
 
     ghost Value = { PreparedWordMatchesBySidesValue };
 
@@ -288,7 +304,7 @@ impl<'s, 'p, 'h> Model for PreparedWordMatchesBySides<'s, 'p, 'h> {
         span = m.span;
         at = m.at;
         from = m.starts.at;
-        known = m.starts.marks.known;
+        look_ups = starts_looked_up m.words m.span m.starts;
       };
       sides = m.sides.now;
     } };
@@ -317,7 +333,7 @@ impl<'s, 'p, 'h> PreparedWordMatchesBySides<'s, 'p, 'h> {
         ensures same { self.new.matches ≡ record self.old.matches {
           at = self.new.matches.at;
           from = self.new.matches.from;
-          known = self.new.matches.known;
+          look_ups = self.new.matches.look_ups;
         } }
         ensures sides { self.new.sides ≡ self.old.sides }
     {
@@ -343,17 +359,16 @@ impl<'s, 'p, 'h> PreparedWordMatchesBySides<'s, 'p, 'h> {
         ensures same { self.new.matches ≡ record self.old.matches {
           at = self.new.matches.at;
           from = self.new.matches.from;
-          known = self.new.matches.known;
+          look_ups = self.new.matches.look_ups;
         } }
         ensures sides { self.new.sides ≡ self.old.sides }
-        ensures further { (self.old.matches.known ≤ self.new.matches.known)
-            × (self.new.matches.known ≤ self.old.matches.span.end) }
+        ensures looks { IfOk result (λ _. LooksOn (longest_in self.old.matches.words.numbers) self.old.matches.span
+            self.new.matches.from self.old.matches.look_ups self.new.matches.look_ups) }
         ensures scans { IfOk result (λ _. ScansWordsBy (longest_in self.old.matches.words.numbers)
-            self.old.matches.span self.old.matches.from self.new.matches.from self.old.matches.known
-            self.new.matches.known tally.old tally.new) }
-        ensures most { ScansWordsAtMost (longest_in self.old.matches.words.numbers) self.old.matches.span
-            self.old.matches.from self.new.matches.from self.old.matches.known self.new.matches.known
-            tally.old tally.new }
+            self.old.matches.from self.new.matches.from self.old.matches.look_ups self.new.matches.look_ups
+            tally.old tally.new) }
+        ensures rest { ScansWordsRest (longest_in self.old.matches.words.numbers) self.old.matches.span
+            self.old.matches.from self.old.matches.look_ups tally.old tally.new }
     {
         let (span, at) = (self.span, self.at);
         let haystack = self.haystack;
@@ -368,7 +383,7 @@ impl<'s, 'p, 'h> PreparedWordMatchesBySides<'s, 'p, 'h> {
             }
             Err(_) => {
                 self.at = span.end;
-                self.starts = KnownStarts::new(span.end);
+                self.starts.end(span);
                 Err(Damaged)
             }
         }

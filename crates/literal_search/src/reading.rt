@@ -15,17 +15,20 @@ pub(crate) struct Reading {
     failure: Option<ErrorKind>,
     /// The error, until it is given.
     error: Option<io::Error>,
+    /// The number of bytes that the last read gave. Only contracts look at it.
+    last: usize,
 }
 
 impl Reading {
     /// Nothing was read yet.
     pub(crate) fn new() -> Reading
-        ensures { result ≡ record { is_whole = false; failure = None; error = None } }
+        ensures { result ≡ record { is_whole = false; failure = None; error = None; last = 0 } }
     {
         Reading {
             is_whole: false,
             failure: None,
             error: None,
+            last: 0,
         }
     }
 
@@ -52,6 +55,7 @@ impl Reading {
         ensures bytes { Consumes (R.remaining reader.old) (R.remaining reader.new) (take result bytes.new) }
         ensures sound { IsSoundReading self.new (R.remaining reader.new) }
         ensures some { IsOpen self.new → 0 < result }
+        ensures last { self.new.last ≡ result }
     {
         let answer = reader.read(bytes);
         self.take_in(answer)
@@ -74,21 +78,24 @@ impl Reading {
         requires open { IsOpen self.old }
         requires no_failure { self.old.failure ≡ None }
         ensures told { MatchResult answer
-            (λ count. (result ≡ count) × (self.new ≡ record self.old { is_whole = count == 0 }))
+            (λ count. (result ≡ count) × (self.new ≡ record self.old { is_whole = count == 0; last = count }))
             (λ error. (result ≡ 0) × (self.new ≡ record self.old {
               failure = Some (error_kind error);
               error = Some error;
+              last = 0;
             })) }
         ensures sound { (unread : Option (List ℕ)) → (answer ≡ Ok 0 → IsAtEnd unread) → IsSoundReading self.new unread }
     {
         match answer {
             Ok(count) => {
                 self.is_whole = count == 0;
+                self.last = count;
                 count
             }
             Err(error) => {
                 self.failure = Some(error.kind());
                 self.error = Some(error);
+                self.last = 0;
                 0
             }
         }
@@ -98,6 +105,7 @@ impl Reading {
     pub(crate) fn take_error(&mut self) -> Option<io::Error>
         requires { self.old.failure ≡ option_map error_kind self.old.error }
         ensures failure { self.new.failure ≡ self.old.failure }
+        ensures is_whole { self.new.is_whole ≡ self.old.is_whole }
         ensures error { self.new.failure ≡ option_map error_kind result }
     {
         self.error.take()

@@ -5,9 +5,8 @@ ghost use Rattle.std.specs.Str.{IsUtf8};
 ghost use Rattle.literal_search.specs.Replaced.{AreTextWordsReplaced, AreWordsReplaced, AreWordsWritten, IsReplaced};
 ghost use Rattle.literal_search.specs.Replaced.{IsReplacedBy, IsWritten, RefusesToReplace, RefusesToReplaceBy};
 ghost use Rattle.literal_search.specs.Replaced.{RefusesToReplaceTextWords, RefusesToReplaceWords};
-ghost use Rattle.literal_search.specs.SearchValue.{ScansListAtMost, longest_of};
+ghost use Rattle.literal_search.specs.SearchValue.{ScansListAtMost};
 ghost use Rattle.literal_search.specs.WholeWords.{AreWordsFromBy};
-ghost use Rattle.literal_search.specs.declared.backward.TheConstants.{LEAST};
 
 use crate::{Match, Search, Span, Tally, WholeWords, WordText};
 use std::alloc::{AllocError, Global};
@@ -81,8 +80,7 @@ impl Search {
     }
 
     /// Like [`Search::replace_all`], and counts each looked-up byte in the tally, as scanned: at least the bytes of the
-    /// haystack, and at most three times as many if no pattern has more than 1,024 bytes. With a longer pattern, it is
-    /// at most eleven times as many, plus 36 times the first part for each match ([`Search::find_in_counted`]). If
+    /// haystack, and at most three times as many, and once more for each whole 262,000 bytes of the longest pattern. If
     /// memory is refused, it may be fewer.
     pub fn replace_all_counted(
         &self,
@@ -92,14 +90,11 @@ impl Search {
         tally: &mut Tally,
     ) -> Result<Vec<u8>, ReplaceError>
         ensures ok { IfOk result
-            (λ text. (is : IsReplaced self.now haystack.now (map (λ r. r.now) replacements.now) text.items)
-            × (tally.old.scanned + length haystack.now ≤ tally.new.scanned)
-            × ScansListAtMost self.now.query.patterns (length haystack.now) (length is.matches) tally.old tally.new) }
+            (λ text. IsReplaced self.now haystack.now (map (λ r. r.now) replacements.now) text.items
+            × (tally.old.scanned + length haystack.now ≤ tally.new.scanned)) }
         ensures error { IfErr result
             (RefusesToReplace self.now haystack.now (map (λ r. r.now) replacements.now)) }
-        ensures others { tally.new ≡ record tally.old { scanned = tally.new.scanned } }
-        ensures bounded { longest_of self.now.query.patterns ≤ LEAST
-            → tally.new.scanned ≤ tally.old.scanned + 3 * length haystack.now }
+        ensures bounded { ScansListAtMost self.now.query.patterns (length haystack.now) tally.old tally.new }
     {
         if replacements.len() != self.patterns_len() {
             return Err(ReplaceError::NotOneForEach);
@@ -223,6 +218,72 @@ impl WholeWords {
             (RefusesToReplaceTextWords self.now text.now (map (λ r. r.now) replacements.now)) }
     {
         self.replace_all_by_sides(alloc, text.as_bytes(), text.sides(), replacements)
+    }
+
+    /// Returns the text with each whole word replaced by the replacement of its pattern, as [`WholeWords::replace_all`]
+    /// does. The patterns have to be valid UTF-8 too. Allocates only if the answer is not empty.
+    pub fn replace_all_str(
+        &self,
+        alloc: Global,
+        haystack: &str,
+        replacements: &[&str],
+    ) -> Result<String, ReplaceError>
+        requires { All IsUtf8 self.now.search.query.patterns }
+        ensures ok { IfOk result (λ text.
+            AreWordsReplaced self.now haystack.now (map (λ r. r.now) replacements.now) (string_bytes text)) }
+        ensures error { IfErr result
+            (RefusesToReplaceWords self.now haystack.now (map (λ r. r.now) replacements.now)) }
+    {
+        self.replace_all_str_by_sides(alloc, haystack, haystack.as_bytes(), replacements)
+    }
+
+    /// Returns the text with each whole word of [`WholeWords::find_text_iter`] replaced by the replacement of its
+    /// pattern, as [`WholeWords::replace_text_all`] does. The patterns have to be valid UTF-8 too. Allocates only if
+    /// the answer is not empty.
+    pub fn replace_text_all_str(
+        &self,
+        alloc: Global,
+        text: &WordText<'_>,
+        replacements: &[&str],
+    ) -> Result<String, ReplaceError>
+        requires { All IsUtf8 self.now.search.query.patterns }
+        ensures ok { IfOk result (λ answer.
+            AreTextWordsReplaced self.now text.now (map (λ r. r.now) replacements.now) (string_bytes answer)) }
+        ensures error { IfErr result
+            (RefusesToReplaceTextWords self.now text.now (map (λ r. r.now) replacements.now)) }
+    {
+        self.replace_all_str_by_sides(alloc, text.as_str(), text.sides(), replacements)
+    }
+
+    /// The text with each whole word by its sides replaced by the replacement of its pattern.
+    fn replace_all_str_by_sides(
+        &self,
+        alloc: Global,
+        haystack: &str,
+        sides: &[u8],
+        replacements: &[&str],
+    ) -> Result<String, ReplaceError>
+        requires sides { length sides.now ≡ length haystack.now }
+        requires texts { All IsUtf8 self.now.search.query.patterns }
+        ensures ok { IfOk result (λ text. IsReplacedBy (AreWordsFromBy self.now sides.now)
+            (length self.now.search.query.patterns) haystack.now (map (λ r. r.now) replacements.now)
+            (string_bytes text)) }
+        ensures error { IfErr result (RefusesToReplaceBy (AreWordsFromBy self.now sides.now)
+            (length self.now.search.query.patterns) haystack.now (map (λ r. r.now) replacements.now)) }
+    {
+        if replacements.len() != self.patterns_len() {
+            return Err(ReplaceError::NotOneForEach);
+        }
+        let mut text = String::new(alloc);
+        let mut at = 0;
+        let end = haystack.len();
+        for found in self.matches_by_sides(haystack.as_bytes(), sides, Span { start: 0, end }) {
+            text.push_str(&haystack[at..found.start()])?;
+            text.push_str(replacements[found.pattern().as_usize()])?;
+            at = found.end();
+        }
+        text.push_str(&haystack[at..])?;
+        Ok(text)
     }
 
     /// The haystack with each whole word by its sides replaced by the replacement of its pattern.

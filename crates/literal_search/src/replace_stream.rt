@@ -7,14 +7,15 @@ ghost use Rattle.literal_search.specs.Replaced.{StopsRewriting, StopsRewritingWo
 ghost use Rattle.literal_search.specs.ReplacedStream.{RewritesAllBy, RewritesAllOf, RewritesWordsBy};
 ghost use Rattle.literal_search.specs.ReplacedStream.{StopsRewritingBy, StopsRewritingOf, StopsRewritingWordsBy};
 ghost use Rattle.literal_search.specs.declared.replace_stream.ReplaceStreamError.TheVariants.{WriteFailed};
-ghost use Rattle.literal_search.specs.Inside.Rewriting.{IsOfFailure};
+ghost use Rattle.literal_search.specs.Inside.Rewriting.{IsOfFailure, MayBeOfFailure};
 ghost use Rattle.literal_search.specs.Inside.Stream.{AreMatches, IsSoundStream, held, reach_of, search_of};
 
 use crate::reading::Reading;
-use crate::sought::Sought;
+use crate::sought::{BlockSearch, Sought};
 use crate::stream::next_known;
 use crate::window::Window;
 use crate::{Match, Search, SoFar, WholeWords};
+use literal_base::count::Tally;
 use std::alloc::{AllocError, Global};
 use std::error::Error;
 use std::fmt;
@@ -97,7 +98,17 @@ impl Search {
         ensures error { IfErr result (StopsRewriting self.now (map (λ r. r.now) replacements.now)
             (R.remaining reader.old) (R.remaining reader.new) (W.contents writer.old) (W.contents writer.new)) }
     {
-        replace_each(Sought::Any(self), alloc, reader, writer, replacements)
+        let (reading, failure) = (&mut Reading::new(), &mut None);
+        replace_each(
+            Sought::Any(self),
+            alloc,
+            reader,
+            reading,
+            writer,
+            failure,
+            replacements,
+            &mut Tally::new(),
+        )
     }
 
     /// Reads a text to its end, and writes it with each match replaced by what a function writes for it. The function
@@ -129,7 +140,17 @@ impl Search {
         ensures error { IfErr result (StopsRewritingBy W.contents F.step self.now replace (R.remaining reader.old)
             (R.remaining reader.new) (W.contents writer.old) (W.contents writer.new)) }
     {
-        replace_with(Sought::Any(self), alloc, reader, writer, replace)
+        let (reading, failure) = (&mut Reading::new(), &mut None);
+        replace_with(
+            Sought::Any(self),
+            alloc,
+            reader,
+            reading,
+            writer,
+            failure,
+            replace,
+            &mut Tally::new(),
+        )
     }
 }
 
@@ -164,7 +185,17 @@ impl WholeWords {
         ensures error { IfErr result (StopsRewritingWords self.now (map (λ r. r.now) replacements.now)
             (R.remaining reader.old) (R.remaining reader.new) (W.contents writer.old) (W.contents writer.new)) }
     {
-        replace_each(Sought::Words(self), alloc, reader, writer, replacements)
+        let (reading, failure) = (&mut Reading::new(), &mut None);
+        replace_each(
+            Sought::Words(self),
+            alloc,
+            reader,
+            reading,
+            writer,
+            failure,
+            replacements,
+            &mut Tally::new(),
+        )
     }
 
     /// Reads a text to its end, and writes it with each whole word replaced by what a function writes for it, called as
@@ -184,17 +215,31 @@ impl WholeWords {
         ensures error { IfErr result (StopsRewritingWordsBy W.contents F.step self.now replace
             (R.remaining reader.old) (R.remaining reader.new) (W.contents writer.old) (W.contents writer.new)) }
     {
-        replace_with(Sought::Words(self), alloc, reader, writer, replace)
+        let (reading, failure) = (&mut Reading::new(), &mut None);
+        replace_with(
+            Sought::Words(self),
+            alloc,
+            reader,
+            reading,
+            writer,
+            failure,
+            replace,
+            &mut Tally::new(),
+        )
     }
 }
 
-/// Writes a text with each match replaced by the replacement of its pattern.
+/// Writes a text with each match replaced by the replacement of its pattern. It tells the progress of reading, and the
+/// kind of the error if writing fails.
 fn replace_each<R: Read, W: Write>(
     sought: Sought<'_>,
     alloc: Global,
     reader: &mut R,
+    reading: &mut Reading,
     writer: &mut W,
+    failure: &mut Option<ErrorKind>,
     replacements: &[&[u8]],
+    tally: &mut Tally,
 ) -> Result<(), ReplaceStreamError>
     ensures ok { OnOk result (ReplacesAll (AreMatches sought.entry) (length (search_of sought.entry).query.patterns)
         (reach_of sought.entry) (map (λ r. r.now) replacements.now) (R.remaining reader.old) (R.remaining reader.new)
@@ -202,6 +247,7 @@ fn replace_each<R: Read, W: Write>(
     ensures error { IfErr result (StopsReplacing (AreMatches sought.entry)
         (length (search_of sought.entry).query.patterns) (reach_of sought.entry) (map (λ r. r.now) replacements.now)
         (R.remaining reader.old) (R.remaining reader.new) (W.contents writer.old) (W.contents writer.new)) }
+    ensures cause { IfErr result (MayBeOfFailure reading.new.failure failure.new) }
 {
     if replacements.len() != sought.patterns_len() {
         return Err(ReplaceStreamError::NotOneForEach);
@@ -210,18 +256,25 @@ fn replace_each<R: Read, W: Write>(
         sought,
         alloc,
         reader,
+        reading,
         writer,
+        failure,
         |found: Match, _bytes: &[u8], writer: &mut W| put_replacement(replacements, found, writer),
+        tally,
     )
 }
 
-/// Writes a text with each match replaced by what a function writes for it.
+/// Writes a text with each match replaced by what a function writes for it. It tells the progress of reading, and the
+/// kind of the error if writing fails.
 fn replace_with<R: Read, W: Write, F: FnMut(Match, &[u8], &mut W) -> io::Result<()>>(
     sought: Sought<'_>,
     alloc: Global,
     reader: &mut R,
+    reading: &mut Reading,
     writer: &mut W,
+    failure: &mut Option<ErrorKind>,
     replace: F,
+    tally: &mut Tally,
 ) -> Result<(), ReplaceStreamError>
     requires { F.IsAlwaysCallable replace }
     ensures ok { OnOk result (RewritesAllOf W.contents F.step (AreMatches sought.entry) (reach_of sought.entry) replace
@@ -229,9 +282,11 @@ fn replace_with<R: Read, W: Write, F: FnMut(Match, &[u8], &mut W) -> io::Result<
     ensures error { IfErr result (StopsRewritingOf W.contents F.step (AreMatches sought.entry)
         (reach_of sought.entry) replace (R.remaining reader.old) (R.remaining reader.new) (W.contents writer.old)
         (W.contents writer.new)) }
+    ensures cause { IfErr result (MayBeOfFailure reading.new.failure failure.new) }
 {
     let mut window = Window::new(alloc, sought.reach().saturating_mul(2))?;
-    let (reading, failure) = (&mut Reading::new(), &mut None);
+    *reading = Reading::new();
+    *failure = None;
     rewrite(
         sought,
         &mut window,
@@ -240,6 +295,7 @@ fn replace_with<R: Read, W: Write, F: FnMut(Match, &[u8], &mut W) -> io::Result<
         writer,
         failure,
         replace,
+        tally,
     )
 }
 
@@ -264,6 +320,7 @@ fn rewrite<R: Read, W: Write, F: FnMut(Match, &[u8], &mut W) -> io::Result<()>>(
     writer: &mut W,
     failure: &mut Option<ErrorKind>,
     mut replace: F,
+    tally: &mut Tally,
 ) -> Result<(), ReplaceStreamError>
     requires sound { IsSoundStream (reach_of sought) window.old reading.old (R.remaining reader.old) }
     requires empty { held window.old ≡ [] }
@@ -277,8 +334,9 @@ fn rewrite<R: Read, W: Write, F: FnMut(Match, &[u8], &mut W) -> io::Result<()>>(
     ensures cause { IfErr result (IsOfFailure reading.new.failure failure.new) }
 {
     let (mut at, mut is_over) = (0, false);
+    let mut ahead = BlockSearch::new(sought);
     while !is_over {
-        let to = match next_known(sought, window, at, reader, reading) {
+        let to = match next_known(sought, window, at, &mut ahead, reader, reading, tally) {
             SoFar::Found(found) => {
                 put(window.between(at, found.start()), writer, failure)?;
                 let bytes = window.between(found.start(), found.end());

@@ -9,26 +9,25 @@ ghost use Rattle.literal_base.specs.Occurs.{IsValidSpan, NothingOccurs, Occurs, 
 ghost use Rattle.literal_base.specs.Occurs.{rest_from, whole_of};
 ghost use Rattle.literal_base.specs.declared.packed.MatchKind.TheVariants.{LeftmostLongest};
 ghost use Rattle.literal_search.specs.At.{IsMatchAt, IsMatchIn, IsNextInList, ScansAt};
+ghost use Rattle.literal_search.specs.LookUps.{ScansNext, no_look_ups};
 ghost use Rattle.literal_search.specs.SearchValue.{BuildsSearch, CanBeKept, MayRefuseList, NeedFewReversed};
-ghost use Rattle.literal_search.specs.SearchValue.{NeedTooManyReversed, RefusesSearch, ScansNext, ScansThrice};
-ghost use Rattle.literal_search.specs.SearchValue.{ScansWithin};
-ghost use Rattle.literal_search.specs.SearchValue.{longest_of, looked_upto, reversed, search_by, shortest_of};
+ghost use Rattle.literal_search.specs.SearchValue.{NeedTooManyReversed, RefusesSearch, ScansListAtMost, ScansWithin};
+ghost use Rattle.literal_search.specs.SearchValue.{longest_of, reversed, search_by, shortest_of};
 ghost use Rattle.literal_search.specs.MatchesValue.{GivesMatch, GivesStart, GivesThen, most_to_come};
 ghost use Rattle.literal_search.specs.Memory.{TakesBytes};
 ghost use Rattle.literal_search.specs.Prepared.{AreShort, RefusesToPrepare, TakesPlaces, WritesPrepared, longest_in};
-ghost use Rattle.literal_search.specs.Inside.Backward.{AreBackFor, AreMarked, IsPlaced, IsSafe, back_tables_by};
-ghost use Rattle.literal_search.specs.Inside.Backward.{offset_by};
+ghost use Rattle.literal_search.specs.Inside.Backward.{AreBackFor, IsSafe, back_tables_by, offset_by};
 ghost use Rattle.literal_search.specs.Inside.Search.{AreKept, AreParts, patterns_of, search_value, tables_of};
-ghost use Rattle.literal_search.specs.declared.backward.TheConstants.{LEAST};
 
-use crate::backward::{Backward, Continuation, LEAST, Marks, no_marks, offset_after};
+use crate::backward::{Backward, Continuation};
 use crate::classes::classes_for;
+use crate::cursor::Cursor;
 use crate::grow::GrowError;
 use crate::numbers::{Numbers, prints_for};
 use crate::patterns::Patterns;
-use crate::prepared::{ArrayTooShort, PREPARED_VERSION};
+use crate::prepared::ArrayTooShort;
 use crate::prepared_search::backward_in;
-use crate::shadowed::backward_rows;
+use crate::shadowed::{backward_rows, links_for};
 use crate::word_search::earlier;
 use crate::{BuildError, copies, push_copy, shortest_len, total_bytes};
 use literal_base::count::Tally;
@@ -42,9 +41,9 @@ use std::marker::Model;
 /// Searches for leftmost matches of any number of patterns at once. Contracts see the match kind, the patterns, and
 /// whether ASCII case is ignored.
 ///
-/// A search, or a list of all matches, looks up at most three times the bytes of the haystack, for any patterns and any
-/// number of matches. So does an iteration, unless a pattern has more than 1,024 bytes; then each match is searched for
-/// anew.
+/// A search looks up at most three times the bytes of the haystack. So does a list of all matches or an iteration, for
+/// any number of matches, if no pattern has 262,000 bytes; for each whole 262,000 bytes of the longest pattern it may
+/// look up each byte once more.
 ///
 /// A search walks backward through blocks of the haystack, with an automaton of the reversed patterns. Its state at an
 /// offset says which patterns begin there. The automaton has a state for each distinct suffix of a pattern, and a row
@@ -234,7 +233,7 @@ impl Search {
           haystack = haystack.now;
           span = whole_of haystack.now;
           at = 0;
-          known = 0;
+          look_ups = no_look_ups;
         } }
     {
         let end = haystack.len();
@@ -243,8 +242,7 @@ impl Search {
 
     /// The same in a span of the haystack. Each match lies whole in the span. All offsets are in bytes of the whole
     /// haystack. The span has to be valid: `start` is at most `end`, and `end` at most the haystack's length. It
-    /// allocates nothing: the iterator itself holds the marks of one block of 1,024 bytes, in 4 KiB. If a pattern is
-    /// longer than a block, each match is searched for alone.
+    /// allocates nothing: the iterator itself takes 4 KiB. For a span of at most 128 bytes it clears 512 bytes of them.
     pub fn find_iter_in<'s, 'h>(&'s self, haystack: &'h [u8], span: Span) -> Matches<'s, 'h>
         requires { IsValidSpan haystack.now span }
         ensures { result ≡ record {
@@ -252,18 +250,20 @@ impl Search {
           haystack = haystack.now;
           span = span;
           at = span.start;
-          known = span.start;
+          look_ups = no_look_ups;
         } }
     {
         prove!(span.end <= haystack.len());
-        Matches {
+        let backward = self.parts.backward();
+        let mut matches = Matches {
             parts: &self.parts,
+            backward,
             haystack,
             span,
-            at: span.start,
-            numbers: [0; LEAST],
-            marks: no_marks(span.start),
-        }
+            cursor: Cursor::new(span.start),
+        };
+        matches.cursor.make_room(backward.table.longest, span);
+        matches
     }
 
     /// Returns an iterator over the match at each offset where a pattern begins, from left to right: of the patterns
@@ -274,7 +274,7 @@ impl Search {
           haystack = haystack.now;
           span = whole_of haystack.now;
           at = 0;
-          known = 0;
+          look_ups = no_look_ups;
         } }
     {
         let end = haystack.len();
@@ -289,7 +289,7 @@ impl Search {
           haystack = haystack.now;
           span = span;
           at = span.start;
-          known = span.start;
+          look_ups = no_look_ups;
         } }
     {
         Starts {
@@ -297,8 +297,7 @@ impl Search {
         }
     }
 
-    /// Returns the list of all matches that [`Search::find_iter`] gives. Allocates only if there is a match, or if a
-    /// pattern has more than 1,024 bytes.
+    /// Returns the list of all matches that [`Search::find_iter`] gives. Allocates only if there is a match.
     #[tactic(auto, using(crate::proofs::lemmas::GreedyIn::greedy_whole))]
     pub fn find_all(&self, haystack: &[u8]) -> Result<Vec<Match>, AllocError>
         ensures greedy { IfOk result
@@ -310,7 +309,7 @@ impl Search {
     }
 
     /// Returns the list of all matches that [`Search::find_iter_in`] gives. The span has to be valid. Allocates only if
-    /// there is a match, or if a pattern has more than 1,024 bytes.
+    /// there is a match.
     pub fn find_all_in(&self, haystack: &[u8], span: Span) -> Result<Vec<Match>, AllocError>
         requires { IsValidSpan haystack.now span }
         ensures greedy { IfOk result
@@ -321,7 +320,8 @@ impl Search {
     }
 
     /// Like [`Search::find_all_in`], and counts each looked-up byte in the tally, as scanned: at most three times the
-    /// bytes of the span, and, unless memory is refused, at least these bytes.
+    /// bytes of the span, and once more for each whole 262,000 bytes of the longest pattern; and, unless memory is
+    /// refused, at least these bytes.
     pub fn find_all_in_counted(
         &self,
         haystack: &[u8],
@@ -331,16 +331,16 @@ impl Search {
         requires { IsValidSpan haystack.now span }
         ensures greedy { IfOk result
             (λ all. IsGreedyIn self.now.query self.now.ignore_case haystack.now span all.items) }
-        ensures bounded { ScansThrice span tally.old tally.new }
+        ensures bounded { ScansListAtMost self.now.query.patterns (span.end - span.start) tally.old tally.new }
         ensures least { IfOk result (λ _. tally.old.scanned + (span.end - span.start) ≤ tally.new.scanned) }
         ensures no_memory { OnErr result (MayRefuseList self.now haystack.now span) }
     {
-        if self.parts.longest() <= LEAST {
-            return self.parts.all_in(haystack, span, &mut [0; LEAST], tally);
+        let mut all = Vec::new(self.allocator());
+        let mut matches = self.find_iter_in(haystack, span);
+        while let Some(found) = matches.next_counted(tally) {
+            all.push(found)?;
         }
-        let alloc = *self.parts.patterns.allocator();
-        let mut numbers = vec![in alloc; 0u32; self.parts.longest()]?;
-        self.parts.all_in(haystack, span, &mut numbers, tally)
+        Ok(all)
     }
 
     /// Writes the search into the first entries of an array, for [`Prepared`](crate::Prepared), and returns their
@@ -452,7 +452,7 @@ impl Search {
         } = &self.parts;
         let alloc = *patterns.allocator();
         let copied = copy_of_lists(alloc, patterns)?;
-        let numbers = numbers.copy(alloc, patterns)?;
+        let numbers = numbers.copy(alloc, *kind, patterns)?;
         let parts = Parts {
             kind: *kind,
             ignore_case: *ignore_case,
@@ -476,40 +476,6 @@ impl fmt::Debug for Search {
 }
 
 impl Parts {
-    /// Lists all matches in a span. `numbers` has room for the marks of a block.
-    fn all_in(
-        &self,
-        haystack: &[u8],
-        span: Span,
-        numbers: &mut [u32],
-        tally: &mut Tally,
-    ) -> Result<Vec<Match>, AllocError>
-        requires parts { AreParts self.now }
-        requires valid { IsValidSpan haystack.now span }
-        requires room { max (longest_in self.now.numbers) LEAST ≤ length numbers.old }
-        ensures greedy { IfOk result
-            (λ all. IsGreedyIn (search_value self.now).query self.now.ignore_case haystack.now span all.items) }
-        ensures bounded { ScansThrice span tally.old tally.new }
-        ensures least { IfOk result (λ _. tally.old.scanned + (span.end - span.start) ≤ tally.new.scanned) }
-        ensures no_memory { OnErr result
-            (¬ NothingOccurs (patterns_of self.now) self.now.ignore_case haystack.now span) }
-    {
-        let backward = self.backward();
-        let mut all = Vec::new(*self.patterns.allocator());
-        let mut marks = no_marks(span.start);
-        let mut at = span.start;
-        loop {
-            match backward.next_match(haystack, span, at, numbers, &mut marks, tally) {
-                Ok(Some(found)) => {
-                    at = found.end();
-                    all.push(found)?;
-                }
-                Ok(None) => return Ok(all),
-                Err(_) => unreachable!(),
-            }
-        }
-    }
-
     /// The length of the longest pattern.
     fn longest(&self) -> usize
         requires { AreParts self.now }
@@ -549,13 +515,22 @@ fn numbers_of(
     ensures some { OnErr result (0 < length patterns.now) }
 {
     if patterns.is_empty() {
-        return Ok(Numbers::for_none(alloc, false));
+        return Ok(Numbers::for_none(alloc, Some(kind)));
     }
     let classes = classes_for(ignore_case, patterns);
     let rows = backward_rows(alloc, kind, &classes, patterns)?;
+    let links = links_for(alloc, kind, &classes, patterns, &rows)?;
     let prints = prints_for(ignore_case, patterns);
-    let version = PREPARED_VERSION;
-    let numbers = Numbers::assembled(alloc, version, &classes, patterns, rows, &[], &[], &prints)?;
+    let numbers = Numbers::assembled(
+        alloc,
+        Some(kind),
+        &classes,
+        patterns,
+        rows,
+        &[],
+        &links,
+        &prints,
+    )?;
     Ok(numbers)
 }
 
@@ -573,26 +548,22 @@ fn copy_of_lists(alloc: Global, lists: &[Vec<u8>]) -> Result<Vec<Vec<u8>>, Alloc
 }
 
 /// The iterator of [`Search::find_iter_in`]. Contracts see the search, the haystack, the span, the offset from which it
-/// continues (`at`), and the offset up to which it has looked (`known`). After its first `None` it always answers
-/// `None`.
+/// continues (`at`), and bounds on the bytes that it has looked up so far (`look_ups`). After its first `None` it
+/// always answers `None`.
 #[derive(Drop)]
 pub struct Matches<'s, 'h> {
     parts: &'s Parts,
+    /// The search, taken from its numbers once.
+    backward: Backward<'s>,
     haystack: &'h [u8],
     span: Span,
-    at: usize,
-    numbers: [u32; LEAST],
-    marks: Marks,
+    cursor: Cursor,
 }
 
 impl<'s, 'h> Model for Matches<'s, 'h> {
     ghost use Rattle.literal_search.specs.MatchesValue.{MatchesValue};
-    ghost use Rattle.std.specs.Prelude.{◌≤◌};
-    ghost use Rattle.literal_search.specs.Inside.Backward.{AreMarked, IsAhead};
-    ghost use Rattle.literal_search.specs.declared.backward.TheConstants.{LEAST};
-    ghost use Rattle.literal_search.specs.Inside.Search.{AreParts, search_value, tables_of};
-    ghost use Rattle.literal_search.specs.Prepared.{longest_in};
-    ghost use Rattle.literal_base.specs.Occurs.{IsValidSpan};
+    ghost use Rattle.literal_search.specs.Inside.Cursor.{look_ups_of};
+    ghost use Rattle.literal_search.specs.Inside.Search.{GoesOn, search_value};
 
     ghost Value = { MatchesValue };
 
@@ -600,25 +571,19 @@ impl<'s, 'h> Model for Matches<'s, 'h> {
       search = search_value m.parts.now;
       haystack = m.haystack.now;
       span = m.span;
-      at = m.at;
-      known = m.marks.known;
+      at = m.cursor.at;
+      look_ups = look_ups_of m.backward.table.longest m.span m.cursor;
     } };
 
-    ghost invariant = { λ m. AreParts m.parts.now × IsValidSpan m.haystack.now m.span
-        × IsAhead (longest_in m.parts.now.numbers) m.span m.at m.marks
-        × (longest_in m.parts.now.numbers ≤ LEAST
-        → AreMarked (tables_of m.parts.now) m.haystack.now m.span m.at m.numbers m.marks) };
+    ghost invariant = { λ m. GoesOn m.parts.now m.backward m.haystack.now m.span m.cursor };
 }
 
 impl<'s, 'h> Matches<'s, 'h> {
-    /// Like `next`, and counts each looked-up byte in the tally, as scanned. A call looks up at most three times the
-    /// bytes by which `known` grows. An iteration looks up at least the bytes of the span, and at most three times as
-    /// many. If a pattern has more than 1,024 bytes, a call instead looks up as much as [`Search::find_in_counted`] in
-    /// the rest.
+    /// Like `next`, and counts each looked-up byte in the tally, as scanned. An iteration looks up at least the bytes
+    /// of the span, and at most three times as many, and once more for each whole 262,000 bytes of the longest pattern.
     pub fn next_counted(&mut self, tally: &mut Tally) -> Option<Match>
         ensures gives { GivesMatch self.old result self.new }
-        ensures scans { ScansNext (longest_of self.old.search.query.patterns) self.old.span self.old.at self.old.known
-            self.new.known result tally.old tally.new }
+        ensures scans { ScansNext self.old.look_ups self.new.look_ups tally.old tally.new }
     {
         self.next_then(Continuation::AtEnd, tally)
     }
@@ -626,23 +591,14 @@ impl<'s, 'h> Matches<'s, 'h> {
     /// The next match. The iteration continues at its end, or one byte after its start.
     fn next_then(&mut self, on: Continuation, tally: &mut Tally) -> Option<Match>
         ensures gives { GivesThen (offset_by on) self.old result self.new }
-        ensures scans { ScansNext (longest_of self.old.search.query.patterns) self.old.span self.old.at self.old.known
-            self.new.known result tally.old tally.new }
+        ensures scans { ScansNext self.old.look_ups self.new.look_ups tally.old tally.new }
     {
-        let (span, backward) = (self.span, self.parts.backward());
-        let next = backward.next_in(
-            self.haystack,
-            span,
-            self.at,
-            on,
-            &mut self.numbers,
-            &mut self.marks,
-            tally,
-        );
+        let next = self
+            .backward
+            .next_in(self.haystack, self.span, on, &mut self.cursor, tally);
         let Ok(answer) = next else {
             unreachable!();
         };
-        self.at = offset_after(on, span, &answer);
         answer
     }
 }
@@ -675,13 +631,11 @@ impl<'s, 'h> Model for Starts<'s, 'h> {
 }
 
 impl<'s, 'h> Starts<'s, 'h> {
-    /// Like `next`, and counts each looked-up byte in the tally, as scanned. If no pattern has more than 1,024 bytes, a
-    /// call looks up at most three times the bytes of the span that no earlier call has looked up. Otherwise each call
-    /// searches anew, as [`Search::find_in_counted`] does.
+    /// Like `next`, and counts each looked-up byte in the tally, as scanned. The bounds are those of
+    /// [`Matches::next_counted`].
     pub fn next_counted(&mut self, tally: &mut Tally) -> Option<Match>
         ensures gives { GivesStart self.old result self.new }
-        ensures scans { ScansNext (longest_of self.old.search.query.patterns) self.old.span self.old.at self.old.known
-            self.new.known result tally.old tally.new }
+        ensures scans { ScansNext self.old.look_ups self.new.look_ups tally.old tally.new }
     {
         self.matches.next_then(Continuation::AfterStart, tally)
     }

@@ -2,6 +2,9 @@
 ghost use Rattle.std.specs.Prelude.{◌≡◌, ◌+◌, ◌*◌, ◌-◌, ◌<◌, ◌≤◌, ◌^◌, ℕ, IfErr, IfOk, length, map, reverse};
 ghost use Rattle.std.specs.Prelude.{slice_index, sum_by, true};
 ghost use Rattle.literal_base.specs.Occurs.{pattern_at};
+ghost use Rattle.literal_base.specs.declared.packed.MatchKind.TheVariants.{LeftmostLongest};
+ghost use Rattle.literal_search.specs.Links.{AreLinks};
+ghost use Rattle.literal_search.specs.Table.{Recognises};
 ghost use Rattle.literal_search.specs.SearchValue.{CanBeKept, reversed, unshadowed};
 ghost use Rattle.literal_search.specs.States.{HasTooManyStates};
 ghost use Rattle.literal_search.specs.Table.{stride_of};
@@ -11,7 +14,9 @@ ghost use Rattle.literal_search.specs.Inside.Shadowed.{AreRowsFor, chosen_by, te
 use crate::classes::Classes;
 use crate::grow::{GrowError, LIMIT, grow, numbers};
 use crate::prefixes::first_prefixes;
+use crate::suffixes::Recognised;
 use crate::total_bytes;
+use crate::walk::NOTHING;
 use literal_base::packed::MatchKind;
 use std::alloc::{AllocError, Global};
 
@@ -35,6 +40,53 @@ pub(crate) fn backward_rows(
         MatchKind::LeftmostFirst => first_rows(alloc, classes, patterns),
         MatchKind::LeftmostLongest => all_rows(alloc, classes, patterns),
     }
+}
+
+/// The link of each pattern: the longest one that is shorter and a prefix of it. They are followed only where the
+/// longest match is preferred, so with the other rule there is none.
+pub(crate) fn links_for(
+    alloc: Global,
+    kind: MatchKind,
+    classes: &Classes,
+    patterns: &[Vec<u8>],
+    rows: &[u32],
+) -> Result<Vec<u32>, AllocError>
+    requires classes { AreClasses classes.now.table classes.now.width }
+    requires patterns { CanBeKept (map (λ pattern. pattern.items) patterns.now) }
+    requires rows { kind ≡ LeftmostLongest
+        → Recognises (reversed (texts_by classes.now.table patterns.now)) classes.now.width rows.now }
+    ensures long { IfOk result (λ links. length links.items ≡ length patterns.now) }
+    ensures links { IfOk result (λ links. kind ≡ LeftmostLongest
+        → AreLinks (reversed (texts_by classes.now.table patterns.now)) links.items (length patterns.now)) }
+{
+    match kind {
+        MatchKind::LeftmostFirst => vec![in alloc; NOTHING; patterns.len()],
+        MatchKind::LeftmostLongest => prefix_links(alloc, classes, patterns, rows),
+    }
+}
+
+/// The longest pattern that is shorter than a pattern and a prefix of it, for each.
+fn prefix_links(
+    alloc: Global,
+    classes: &Classes,
+    patterns: &[Vec<u8>],
+    rows: &[u32],
+) -> Result<Vec<u32>, AllocError>
+    requires classes { AreClasses classes.now.table classes.now.width }
+    requires patterns { CanBeKept (map (λ pattern. pattern.items) patterns.now) }
+    requires rows { Recognises (reversed (texts_by classes.now.table patterns.now)) classes.now.width rows.now }
+    ensures { IfOk result (λ links. AreLinks (reversed (texts_by classes.now.table patterns.now)) links.items
+        (length patterns.now)) }
+{
+    let all = numbers(alloc, patterns.len())?;
+    let copies = copies_of(alloc, patterns, &all)?;
+    let recognised = Recognised {
+        classes: &classes.table,
+        width: classes.width,
+        rows,
+        patterns: &copies,
+    };
+    recognised.shorter(alloc)
 }
 
 /// The rows for the reversed patterns, each replaced by the first in the list of its prefixes, which include itself.

@@ -35,7 +35,8 @@ impl<'t> Backward<'t> {
         Some(short)
     }
 
-    /// The only pattern, if it is short, and if it is compared at an offset up to which a scan passed from another one.
+    /// The only pattern, if it is short, and if a list compares it at an offset up to which a scan passed from another
+    /// one.
     #[inline(always)]
     pub(crate) fn short_at(&self, span: Span, from: usize, at: usize) -> Option<ShortPattern>
         requires safe { IsSafe self.now }

@@ -1,10 +1,16 @@
-//! What a stream is searched for: the matches of a search, or whole words.
-ghost use Rattle.std.specs.Prelude.{◌≡◌, IfSome, length, min};
-ghost use Rattle.literal_base.specs.Occurs.{IsValidSpan, NoneIsEmpty};
+//! What a stream is searched for: the matches of a search, or whole words. The search goes through a block of it.
+ghost use Rattle.std.specs.Prelude.{◌≡◌, ◌≤◌, List, ℕ, IfSome, false, length, min, true};
+ghost use Rattle.literal_base.specs.Occurs.{NoneIsEmpty, between};
 ghost use Rattle.literal_search.specs.Prepared.{LiesIn};
-ghost use Rattle.literal_search.specs.Inside.Stream.{IsFirstIn, margin_of, reach_of, search_of};
+ghost use Rattle.literal_search.specs.declared.sought.Sought.{Sought};
+ghost use Rattle.literal_search.specs.Inside.Stream.{AreTablesOf, IsFirst, IsThrough, margin_of, reach_of, search_of};
 
+use crate::backward::Continuation;
+use crate::cursor::Cursor;
+use crate::word_search::Words;
 use crate::{Match, Search, Span, WholeWords};
+use literal_base::alphabet::ByteSet;
+use literal_base::count::Tally;
 
 /// What a stream is searched for.
 #[derive(Clone, Copy)]
@@ -16,18 +22,6 @@ pub(crate) enum Sought<'s> {
 }
 
 impl<'s> Sought<'s> {
-    /// The leftmost one in a span, which has to be valid. For words the bytes next to the span count too.
-    pub(crate) fn find_in(self, haystack: &[u8], span: Span) -> Option<Match>
-        requires { IsValidSpan haystack.now span }
-        ensures first { IsFirstIn self.entry haystack.now span result }
-        ensures inside { IfSome result (LiesIn span) }
-    {
-        match self {
-            Sought::Any(search) => search.find_in(haystack, span),
-            Sought::Words(words) => words.find_in(haystack, span),
-        }
-    }
-
     /// The number of bytes on each side of a match that decide whether it counts.
     pub(crate) fn margin(self) -> usize
         ensures { result ≡ margin_of self.entry }
@@ -62,6 +56,115 @@ impl<'s> Sought<'s> {
         match self {
             Sought::Any(search) => search,
             Sought::Words(words) => &words.parts.search,
+        }
+    }
+
+    /// The tables to search by. For matches only those of the walk count.
+    fn tables(self) -> Words<'s>
+        ensures { AreTablesOf self.entry result }
+    {
+        match self {
+            Sought::Any(search) => Words::new(
+                search.match_kind(),
+                search.backward(),
+                ByteSet::empty(),
+            ),
+            Sought::Words(words) => words.tables(),
+        }
+    }
+}
+
+/// A search that goes through a block of a text, from one match to the next.
+#[derive(Drop)]
+pub(crate) struct BlockSearch<'s> {
+    words: Words<'s>,
+    /// Whether it goes through the block as it is now.
+    is_begun: bool,
+    span: Span,
+    cursor: Cursor,
+}
+
+impl<'s> BlockSearch<'s> {
+    /// A search that has not begun.
+    pub(crate) fn new(sought: Sought<'s>) -> BlockSearch<'s>
+        ensures tables { AreTablesOf sought.entry result.words }
+        ensures not_begun { result.is_begun ≡ false }
+    {
+        BlockSearch {
+            words: sought.tables(),
+            is_begun: false,
+            span: Span { start: 0, end: 0 },
+            cursor: Cursor::new(0),
+        }
+    }
+
+    /// Whether it goes through the block as it is now.
+    pub(crate) fn is_begun(&self) -> bool
+        ensures { result ≡ self.now.is_begun }
+    {
+        self.is_begun
+    }
+
+    /// Begins to go through a block, from an offset on.
+    pub(crate) fn begin(&mut self, span: Span)
+        requires { span.start ≤ span.end }
+        ensures words { self.new.words ≡ self.old.words }
+        ensures begun { self.new.is_begun ≡ true }
+        ensures through { (sought : Sought) (block : List ℕ) → span.end ≡ length block
+            → IsThrough sought block span.start self.new }
+    {
+        self.is_begun = true;
+        self.span = span;
+        self.cursor = Cursor::new(span.start);
+        self.cursor
+            .make_room(self.words.backward.table.longest, span);
+    }
+
+    /// Ends at a block, which is about to change.
+    pub(crate) fn end(&mut self)
+        ensures { self.new ≡ record self.old { is_begun = false } }
+    {
+        self.is_begun = false;
+    }
+
+    /// The leftmost one in the block from an offset on, where the search continues.
+    pub(crate) fn next_in(
+        &mut self,
+        sought: Sought<'_>,
+        haystack: &[u8],
+        at: usize,
+        tally: &mut Tally,
+    ) -> Option<Match>
+        requires tables { AreTablesOf sought self.old.words }
+        requires through { IsThrough sought haystack.now at self.old }
+        ensures first { IsFirst sought.entry haystack.now at result }
+        ensures inside { IfSome result (LiesIn (between at (length haystack.now))) }
+        ensures words { self.new.words ≡ self.old.words }
+        ensures begun { self.new.is_begun ≡ self.old.is_begun }
+        ensures through { IfSome result (λ found. IsThrough sought.entry haystack.now found.end self.new) }
+    {
+        let BlockSearch {
+            words,
+            span,
+            cursor,
+            ..
+        } = self;
+        match sought {
+            Sought::Any(_) => {
+                let walk = &words.backward;
+                let next = walk.next_in(haystack, *span, Continuation::AtEnd, cursor, tally);
+                let Ok(answer) = next else {
+                    unreachable!();
+                };
+                answer
+            }
+            Sought::Words(_) => {
+                let next = words.next_word(haystack, haystack, *span, at, cursor, tally);
+                let Ok(answer) = next else {
+                    unreachable!();
+                };
+                answer
+            }
         }
     }
 }

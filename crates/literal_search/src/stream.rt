@@ -1,21 +1,23 @@
 //! Searches in texts that may continue, and in texts that are read in pieces.
 ghost use Rattle.std.specs.Prelude.{◌≡◌, ◌+◌, ◌<◌, ◌≤◌, ◌++◌, [], ℕ, Bool, List, length, false, true};
-ghost use Rattle.std.specs.Prelude.{IfOk, IfSome, MatchOption, MatchResult};
+ghost use Rattle.std.specs.Prelude.{IfOk, IfSome, MatchOption, MatchResult, max};
 ghost use Rattle.std.specs.Io.KnownBytes.{Consumes};
 ghost use Rattle.literal_base.specs.Leftmost.{IsLeftmost};
 ghost use Rattle.literal_base.specs.Occurs.{NoneIsEmpty, between};
 ghost use Rattle.literal_base.specs.Query.{Query};
 ghost use Rattle.literal_search.specs.Prepared.{LiesIn};
 ghost use Rattle.literal_search.specs.SearchValue.{SearchValue, longest_of};
+ghost use Rattle.literal_search.specs.declared.sought.Sought.{Sought};
 ghost use Rattle.literal_search.specs.Stream.{AnswersSoFar, EndsFailed, EndsWhole, GivesAhead, GoesBehind, IsKnownBy};
 ghost use Rattle.literal_search.specs.Stream.{IsKnownSoFar, ScansSoFar, stream_of, told_to};
-ghost use Rattle.literal_search.specs.Inside.Stream.{Answers, AnswersAhead, AreHeldFrom, Begins, HasReadOn, IsFirst};
-ghost use Rattle.literal_search.specs.Inside.Stream.{IsFirstKnown, IsOpen, IsSoundStream, TellsOf, held, margin_of};
+ghost use Rattle.literal_search.specs.Inside.Stream.{Answers, AnswersAhead, AreHeldFrom, AreTablesOf, Begins};
+ghost use Rattle.literal_search.specs.Inside.Stream.{GoesOnAfter, HasReadOn, IsFirst, IsFirstKnown, IsOpen};
+ghost use Rattle.literal_search.specs.Inside.Stream.{IsSearchIn, IsSoundStream, IsThrough, TellsOf, held, margin_of};
 ghost use Rattle.literal_search.specs.Inside.Stream.{reach_of, search_of, stream_value};
 
 use crate::Search;
 use crate::reading::Reading;
-use crate::sought::Sought;
+use crate::sought::{BlockSearch, Sought};
 use crate::window::Window;
 use literal_base::count::Tally;
 use literal_base::{Match, Span};
@@ -69,8 +71,7 @@ impl Search {
     /// the whole text, with offsets in the whole text, whatever pieces it comes in. The buffer has twice the longest
     /// pattern's length, plus 64 KiB or that length, whichever is more. A match is given once twice the longest
     /// pattern's length is read from where the search continues, or the text has ended. If reading fails, all matches
-    /// that are known from the bytes read come before the error. An interrupted read is an error too. Each match takes
-    /// a search of its own, so with long patterns a list of frequent matches in memory is faster.
+    /// that are known from the bytes read come before the error. An interrupted read is an error too.
     ///
     /// ```rust
     /// let words = [b"password".as_slice(), b"secret"];
@@ -121,13 +122,14 @@ pub fn so_far(haystack: &[u8], at: usize, longest: usize, leftmost: Option<Match
 #[derive(Drop)]
 pub struct StreamMatches<'s, R: Read + Drop> {
     search: &'s Search,
-    stream: Stream<R>,
+    stream: Stream<'s, R>,
 }
 
 impl<'s, R: Read + Drop> Model for StreamMatches<'s, R> {
     ghost use Rattle.std.specs.Prelude.{◌≡◌, false};
     ghost use Rattle.literal_search.specs.Stream.{StreamValue};
-    ghost use Rattle.literal_search.specs.Inside.Stream.{AreHeldFrom, IsSoundStream, reach_of, stream_value};
+    ghost use Rattle.literal_search.specs.Inside.Stream.{AreHeldFrom, IsSearchIn, IsSoundStream, reach_of};
+    ghost use Rattle.literal_search.specs.Inside.Stream.{stream_value};
     ghost use Rattle.literal_search.specs.declared.sought.Sought.TheVariants.{Any};
 
     ghost Value = { StreamValue };
@@ -137,7 +139,8 @@ impl<'s, R: Read + Drop> Model for StreamMatches<'s, R> {
 
     ghost invariant = { λ m. m.stream.is_over ≡ false
         → IsSoundStream (reach_of (Any m.search)) m.stream.window m.stream.reading (R.remaining m.stream.reader)
-        × AreHeldFrom 0 m.stream.at m.stream.window };
+        × AreHeldFrom 0 m.stream.at m.stream.window
+        × IsSearchIn (Any m.search) m.stream.window m.stream.at m.stream.ahead };
 }
 
 impl<'s, R: Read + Drop> Iterator for StreamMatches<'s, R> {
@@ -152,26 +155,33 @@ impl<'s, R: Read + Drop> Iterator for StreamMatches<'s, R> {
     /// An error comes only after every match that is known from the bytes read. It is the error of the reader, or
     /// [`io::ErrorKind::FileTooLarge`] if a `usize` cannot count more of the text.
     fn next(&mut self) -> Option<io::Result<Match>> {
-        self.stream.next(Sought::Any(self.search))
+        self.stream
+            .next(Sought::Any(self.search), &mut Tally::new())
     }
 }
 
 /// A text that is read in pieces, and the offset at which a search continues in it.
 #[derive(Drop)]
-pub(crate) struct Stream<R: Read + Drop> {
+pub(crate) struct Stream<'s, R: Read + Drop> {
     reader: R,
     reading: Reading,
     window: Window,
     at: usize,
+    ahead: BlockSearch<'s>,
     is_over: bool,
 }
 
-impl<R: Read + Drop> Stream<R> {
+impl<'s, R: Read + Drop> Stream<'s, R> {
     /// The start of a text, with room for a search.
-    pub(crate) fn new(alloc: Global, sought: Sought<'_>, reader: R) -> Result<Stream<R>, AllocError>
+    pub(crate) fn new(
+        alloc: Global,
+        sought: Sought<'s>,
+        reader: R,
+    ) -> Result<Stream<'s, R>, AllocError>
         ensures sound { IfOk result (λ s. IsSoundStream (reach_of sought.entry) s.window s.reading
             (R.remaining s.reader)) }
         ensures held { IfOk result (λ s. AreHeldFrom (margin_of sought.entry) s.at s.window) }
+        ensures search { IfOk result (λ s. IsSearchIn sought.entry s.window s.at s.ahead) }
         ensures first { IfOk result (λ s. (search : SearchValue)
             → stream_value search s.window s.at s.reading (R.remaining s.reader) s.is_over
             ≡ stream_of search (R.remaining reader)) }
@@ -182,18 +192,25 @@ impl<R: Read + Drop> Stream<R> {
             reading: Reading::new(),
             window,
             at: 0,
+            ahead: BlockSearch::new(sought),
             is_over: false,
         })
     }
 
     /// The answer of an iterator: the leftmost match ahead, or `None`. The error is the reader's.
-    pub(crate) fn next(&mut self, sought: Sought<'_>) -> Option<io::Result<Match>>
+    pub(crate) fn next(
+        &mut self,
+        sought: Sought<'_>,
+        tally: &mut Tally,
+    ) -> Option<io::Result<Match>>
         requires { self.old.is_over ≡ false
             → IsSoundStream (reach_of sought) self.old.window self.old.reading (R.remaining self.old.reader)
-            × AreHeldFrom (margin_of sought) self.old.at self.old.window }
+            × AreHeldFrom (margin_of sought) self.old.at self.old.window
+            × IsSearchIn sought self.old.window self.old.at self.old.ahead }
         ensures sound { self.new.is_over ≡ false
             → IsSoundStream (reach_of sought.entry) self.new.window self.new.reading (R.remaining self.new.reader)
-            × AreHeldFrom (margin_of sought.entry) self.new.at self.new.window }
+            × AreHeldFrom (margin_of sought.entry) self.new.at self.new.window
+            × IsSearchIn sought.entry self.new.window self.new.at self.new.ahead }
         ensures gives { GivesAhead (IsFirst sought.entry) (Begins sought.entry) (margin_of sought.entry)
             (stream_value (search_of sought.entry) self.old.window self.old.at self.old.reading
             (R.remaining self.old.reader) self.old.is_over) result
@@ -207,8 +224,10 @@ impl<R: Read + Drop> Stream<R> {
             sought,
             &mut self.window,
             &mut self.at,
+            &mut self.ahead,
             &mut self.reader,
             &mut self.reading,
+            tally,
         );
         self.is_over = !matches!(next, Ok(Some(_)));
         next.transpose()
@@ -221,13 +240,17 @@ fn next_match<R: Read>(
     sought: Sought<'_>,
     window: &mut Window,
     at: &mut usize,
+    ahead: &mut BlockSearch<'_>,
     reader: &mut R,
     reading: &mut Reading,
+    tally: &mut Tally,
 ) -> io::Result<Option<Match>>
     requires sound { IsSoundStream (reach_of sought) window.old reading.old (R.remaining reader.old) }
     requires held { AreHeldFrom (margin_of sought) at.old window.old }
+    requires search { IsSearchIn sought window.old at.old ahead.old }
     ensures sound { IfOk result (λ answer. IfSome answer (λ _. IsSoundStream (reach_of sought.entry)
-        window.new reading.new (R.remaining reader.new) × AreHeldFrom (margin_of sought.entry) at.new window.new)) }
+        window.new reading.new (R.remaining reader.new) × AreHeldFrom (margin_of sought.entry) at.new window.new
+        × IsSearchIn sought.entry window.new at.new ahead.new)) }
     ensures gives { MatchResult result (λ answer. MatchOption answer
         (EndsWhole (IsFirst sought.entry) (Begins sought.entry) (margin_of sought.entry)
         (stream_value (search_of sought.entry) window.old at.old reading.old (R.remaining reader.old) false)
@@ -240,7 +263,7 @@ fn next_match<R: Read>(
         (stream_value (search_of sought.entry) window.new at.new reading.new (R.remaining reader.new) true)) }
 {
     loop {
-        match next_known(sought, window, *at, reader, reading) {
+        match next_known(sought, window, *at, ahead, reader, reading, tally) {
             SoFar::Found(found) => {
                 *at = found.end();
                 window.hold_from(*at, sought.margin());
@@ -262,17 +285,20 @@ fn next_match<R: Read>(
     }
 }
 
-/// Reads until enough of the text is held for a search from an offset on, or all that can be read. Returns what is
-/// known of the leftmost match, by its offsets in the text.
+/// Goes on with the search of the block, or begins the next one. Returns what is known of the leftmost match from an
+/// offset on, by its offsets in the text.
 pub(crate) fn next_known<R: Read>(
     sought: Sought<'_>,
     window: &mut Window,
     at: usize,
+    ahead: &mut BlockSearch<'_>,
     reader: &mut R,
     reading: &mut Reading,
+    tally: &mut Tally,
 ) -> SoFar
     requires sound { IsSoundStream (reach_of sought) window.old reading.old (R.remaining reader.old) }
     requires held { AreHeldFrom (margin_of sought) at window.old }
+    requires search { IsSearchIn sought window.old at ahead.old }
     ensures sound { IsSoundStream (reach_of sought.entry) window.new reading.new (R.remaining reader.new) }
     ensures held { AreHeldFrom (margin_of sought.entry) at window.new }
     ensures offset { window.new.offset ≡ window.old.offset }
@@ -283,34 +309,83 @@ pub(crate) fn next_known<R: Read>(
     ensures known { IsFirstKnown (reach_of sought.entry) reading.new.is_whole at
         (window.new.offset + length (held window.new)) result }
     ensures further { IsOpen reading.new → at < told_to result }
+    ensures search { IsSearchIn sought.entry window.new (told_to result) ahead.new }
     ensures not_empty { NoneIsEmpty (search_of sought.entry).query.patterns }
 {
     let reach = sought.reach();
-    window.fill(reader, reading, (2 * reach).max(1));
-    let base = window.offset;
-    match first_known(sought, window.held(), at - base, reach, reading.is_whole()) {
+    go_on(reach, window, at, ahead, reader, reading);
+    let (base, is_whole) = (window.block_offset(), reading.is_whole());
+    match first_known(
+        sought,
+        window.block(),
+        at - base,
+        ahead,
+        reach,
+        is_whole,
+        tally,
+    ) {
         SoFar::Found(found) => SoFar::Found(found.offset(base)),
-        SoFar::NoneBefore(offset) => SoFar::NoneBefore(offset + base),
+        SoFar::NoneBefore(offset) => {
+            ahead.end();
+            SoFar::NoneBefore(offset + base)
+        }
     }
 }
 
-/// What is known of the leftmost match from an offset on in the held bytes, which are the rest of the text or a part of
-/// it.
+/// Begins the next block, unless the search of the one before may still give a match that is known. It has all that can
+/// be read, or twice the bytes that decide about a match.
+fn go_on<R: Read>(
+    reach: usize,
+    window: &mut Window,
+    at: usize,
+    ahead: &mut BlockSearch<'_>,
+    reader: &mut R,
+    reading: &mut Reading,
+)
+    requires sound { IsSoundStream reach window.old reading.old (R.remaining reader.old) }
+    requires held { (margin : ℕ) × (margin ≤ reach) × AreHeldFrom margin at window.old }
+    ensures sound { IsSoundStream reach window.new reading.new (R.remaining reader.new) }
+    ensures offset { window.new.offset ≡ window.old.offset }
+    ensures read { (piece : List ℕ) × Consumes (R.remaining reader.old) (R.remaining reader.new) piece
+        × (held window.new ≡ held window.old ++ piece) × HasReadOn reading.old piece reading.new }
+    ensures search { (sought : Sought) → IsSearchIn sought window.old at ahead.old
+        → IsSearchIn sought window.new at ahead.new }
+    ensures begun { ahead.new.is_begun ≡ true }
+    ensures enough { IsOpen reading.new → at + max reach 1 ≤ window.new.offset + length (held window.new) }
+{
+    let known = window.offset + window.held().len();
+    if ahead.is_begun() && (known - at >= reach.max(1) || !reading.is_open()) {
+        return;
+    }
+    window.fill(reader, reading, (2 * reach).max(1));
+    ahead.begin(Span {
+        start: at - window.offset,
+        end: window.held().len(),
+    });
+}
+
+/// What is known of the leftmost match from an offset on in a block of the text, which is its rest or a part of it.
 fn first_known(
     sought: Sought<'_>,
     haystack: &[u8],
     from: usize,
+    ahead: &mut BlockSearch<'_>,
     reach: usize,
     is_whole: bool,
+    tally: &mut Tally,
 ) -> SoFar
     requires within { from ≤ length haystack.now }
     requires reach { reach ≡ reach_of sought }
+    requires tables { AreTablesOf sought ahead.old.words }
+    requires through { IsThrough sought haystack.now from ahead.old }
     ensures answers { (more : List ℕ) → (is_whole ≡ true → more ≡ [])
         → Answers sought.entry (haystack.now ++ more) from result }
     ensures known { IsFirstKnown (reach_of sought.entry) is_whole from (length haystack.now) result }
+    ensures words { ahead.new.words ≡ ahead.old.words }
+    ensures through { GoesOnAfter sought.entry haystack.now ahead.new result }
 {
     let end = haystack.len();
-    let found = sought.find_in(haystack, Span { start: from, end });
+    let found = ahead.next_in(sought, haystack, from, tally);
     if !is_whole {
         return so_far(haystack, from, reach, found);
     }

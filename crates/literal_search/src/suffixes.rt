@@ -4,6 +4,7 @@ ghost use Rattle.std.specs.Option.{unwrap_or};
 ghost use Rattle.literal_base.specs.Occurs.{pattern_at};
 ghost use Rattle.literal_search.specs.Table.{nothing};
 ghost use Rattle.literal_search.specs.Words.{ending};
+ghost use Rattle.literal_search.specs.Links.{AreLinks};
 ghost use Rattle.literal_search.specs.Inside.Suffixes.{AreSuffixes};
 ghost use Rattle.literal_search.specs.Inside.Lists.{AreLists, AreLongest, AreOutputLinks, Recognise, symbols_of};
 
@@ -56,6 +57,18 @@ impl<'p> Recognised<'p> {
             longest.push(self.longest_suffix(pattern, 0))?;
         }
         Ok(longest)
+    }
+
+    /// For each pattern the longest one that is a suffix of it without its first byte.
+    pub(crate) fn shorter(&self, alloc: Global) -> Result<Vec<u32>, AllocError>
+        requires { Recognise self.now }
+        ensures { IfOk result (λ links. AreLinks (symbols_of self.now) links.items (length self.now.patterns.now)) }
+    {
+        let mut links = Vec::new(alloc);
+        for pattern in 0..self.patterns.len() {
+            links.push(self.longest_suffix(pattern, 1))?;
+        }
+        Ok(links)
     }
 
     /// For each pattern the next one that is a suffix of it: a later one equal to it, or else a shorter one.

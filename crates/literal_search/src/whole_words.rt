@@ -7,11 +7,14 @@ ghost use Rattle.literal_base.specs.Occurs.{IsValidSpan, pattern_at, whole_of};
 ghost use Rattle.literal_search.specs.SearchValue.{BuildsSearch, CanBeKept, NeedFewReversed, NeedTooManyReversed};
 ghost use Rattle.literal_search.specs.SearchValue.{RefusesSearch};
 ghost use Rattle.literal_search.specs.WholeWords.{AreWholeWords, GivesWholeWord, IsFirstAlone};
+ghost use Rattle.literal_search.specs.LookUps.{no_look_ups};
 ghost use Rattle.literal_search.specs.WholeWords.{NothingAlone, OccursAlone, ScansFirstWord, ScansWords};
 ghost use Rattle.literal_search.specs.WholeWords.{is_ascii_word_byte, most_words_to_come};
+ghost use Rattle.literal_search.specs.Inside.WholeWords.{AreTablesFor};
 
 use crate::BuildError;
 use crate::search::Search;
+use crate::word_search::Words;
 use crate::word_text::WordMatchesBySides;
 use literal_base::alphabet::ByteSet;
 use literal_base::count::Tally;
@@ -121,10 +124,10 @@ impl WholeWords {
         self.find_in_counted(haystack, span, &mut Tally::new())
     }
 
-    /// Like [`WholeWords::find_in`], and counts each looked-up byte in the tally, as scanned. If no pattern has more
-    /// than 1,024 bytes, these are at most three times the bytes of the span, plus (n + 1)^2 for each byte up to and
-    /// including the match's first, where n is the longest pattern's length; without a match, for each byte of the
-    /// span. With a longer pattern, each of these bytes may add three times the span.
+    /// Like [`WholeWords::find_in`], and counts each looked-up byte in the tally, as scanned. These are at most three
+    /// times the bytes of the span, and once more for each whole 262,000 bytes of the longest pattern; plus n + 1 for
+    /// each byte up to and including the match's first, where n is the longest pattern's length; without a match, for
+    /// each byte of the span.
     pub fn find_in_counted(&self, haystack: &[u8], span: Span, tally: &mut Tally) -> Option<Match>
         requires { IsValidSpan haystack.now span }
         ensures leftmost { IsFirstAlone self.now haystack.now span result }
@@ -152,7 +155,7 @@ impl WholeWords {
           span = whole_of haystack.now;
           at = 0;
           from = 0;
-          known = 0;
+          look_ups = no_look_ups;
         } }
     {
         let end = haystack.len();
@@ -172,7 +175,7 @@ impl WholeWords {
           span = span;
           at = span.start;
           from = span.start;
-          known = span.start;
+          look_ups = no_look_ups;
         } }
     {
         WholeWordMatches {
@@ -202,6 +205,18 @@ impl WholeWords {
             all.push(found)?;
         }
         Ok(all)
+    }
+
+    /// The tables to search by.
+    pub(crate) fn tables(&self) -> Words<'_>
+        ensures { AreTablesFor self.now result }
+    {
+        let Parts {
+            kind,
+            search,
+            word_bytes,
+        } = &self.parts;
+        Words::new(*kind, search.backward(), *word_bytes)
     }
 
     /// Returns the match kind, which decides between whole words that begin at the same offset.
@@ -244,8 +259,8 @@ impl WholeWords {
 }
 
 /// The iterator of [`WholeWords::find_iter_in`]. Contracts see the words, the haystack, the span, the offset from which
-/// it continues, the offset from which it looks for the next pattern, and the offset up to which it has looked. After
-/// its first `None` it always answers `None`.
+/// it continues, the offset from which it looks for the next pattern, and bounds on the bytes that it has looked up.
+/// After its first `None` it always answers `None`.
 #[derive(Drop)]
 pub struct WholeWordMatches<'s, 'h> {
     matches: WordMatchesBySides<'s, 'h>,
@@ -263,13 +278,13 @@ impl<'s, 'h> Model for WholeWordMatches<'s, 'h> {
 }
 
 impl<'s, 'h> WholeWordMatches<'s, 'h> {
-    /// Like `next`, and counts each looked-up byte in the tally, as scanned. If no pattern has more than 1,024 bytes,
-    /// these are at most three times the bytes of the span that no earlier call has looked up, plus (n + 1)^2 for each
-    /// byte by which the call advances, where n is the longest pattern's length.
+    /// Like `next`, and counts each looked-up byte in the tally, as scanned. An iteration looks up at most as many
+    /// bytes as [`Matches::next_counted`](crate::Matches::next_counted) says, plus n + 1 for each byte of the span,
+    /// where n is the longest pattern's length.
     pub fn next_counted(&mut self, tally: &mut Tally) -> Option<Match>
         ensures gives { GivesWholeWord self.old result self.new }
-        ensures scans { ScansWords self.old.words.search.query.patterns self.old.span self.old.from self.new.from
-            self.old.known self.new.known tally.old tally.new }
+        ensures scans { ScansWords self.old.words.search.query.patterns self.old.from self.new.from
+            self.old.look_ups self.new.look_ups tally.old tally.new }
     {
         self.matches.next_counted(tally)
     }

@@ -1,7 +1,9 @@
 //! The known part of a text that is read in pieces.
-ghost use Rattle.std.specs.Prelude.{◌≡◌, ◌+◌, ◌-◌, ◌<◌, ◌≤◌, ◌++◌, [], ℕ, List, None, drop, length, slice_range, IfOk};
+ghost use Rattle.std.specs.Prelude.{◌≡◌, ◌⊎◌, ◌+◌, ◌-◌, ◌<◌, ◌≤◌, ◌++◌, [], ℕ, List, None, drop, length};
+ghost use Rattle.std.specs.Prelude.{◌/◌, max, slice_range, IfOk};
 ghost use Rattle.std.specs.Io.KnownBytes.{Consumes};
-ghost use Rattle.literal_search.specs.Inside.Stream.{AreHeldFrom, HasReadOn, IsOpen, IsSoundReading, IsWindow, held};
+ghost use Rattle.literal_search.specs.Inside.Stream.{AreHeldFrom, HasReadOn, IsOpen, IsSoundReading, IsWindow, block};
+ghost use Rattle.literal_search.specs.Inside.Stream.{held};
 
 use crate::reading::Reading;
 use std::alloc::{AllocError, Global};
@@ -16,14 +18,19 @@ pub(crate) struct Window {
     bytes: Vec<u8>,
     start: usize,
     end: usize,
+    /// The number of bytes before the held ones that are kept too. With them these are the block, through which one
+    /// search goes.
+    passed: usize,
     /// The number of bytes of the text before them.
     pub(crate) offset: usize,
 }
 
 impl Window {
-    /// An empty window with room for more than `len` bytes and for a block.
+    /// An empty window with room for more than `len` bytes: for a block besides, or half as many bytes if that is
+    /// more.
     pub(crate) fn new(alloc: Global, len: usize) -> Result<Window, AllocError>
-        ensures window { IfOk result (λ w. IsWindow w × (len < length w.bytes.items)) }
+        ensures window { IfOk result (λ w. IsWindow w) }
+        ensures room { IfOk result (λ w. length w.bytes.items ≡ len + max BLOCK (len / 2) + 1) }
         ensures empty { IfOk result (λ w. held w ≡ []) }
         ensures first { IfOk result (λ w. w.offset ≡ 0) }
     {
@@ -33,6 +40,7 @@ impl Window {
             bytes,
             start: 0,
             end: 0,
+            passed: 0,
             offset: 0,
         })
     }
@@ -45,6 +53,22 @@ impl Window {
         &self.bytes[self.start..self.end]
     }
 
+    /// The bytes of the block: the held ones, and those that were dropped since it began.
+    pub(crate) fn block(&self) -> &[u8]
+        requires { IsWindow self.now }
+        ensures { result.now ≡ block self.now }
+    {
+        &self.bytes[self.start - self.passed..self.end]
+    }
+
+    /// The offset in the text at which the block begins.
+    pub(crate) fn block_offset(&self) -> usize
+        requires { IsWindow self.now }
+        ensures { result ≡ self.now.offset - self.now.passed }
+    {
+        self.offset - self.passed
+    }
+
     /// The held bytes between two offsets of the text.
     pub(crate) fn between(&self, from: usize, to: usize) -> &[u8]
         requires window { IsWindow self.now }
@@ -55,7 +79,7 @@ impl Window {
         &self.held()[from - self.offset..to - self.offset]
     }
 
-    /// Drops the first held bytes.
+    /// Drops the first held bytes. The block stays.
     #[tactic(auto, using(crate::proofs::lemmas::Streams::part_behind, crate::proofs::lemmas::Prepared::length_part))]
     pub(crate) fn pass(&mut self, count: usize)
         requires window { IsWindow self.old }
@@ -63,9 +87,12 @@ impl Window {
         ensures window { IsWindow self.new }
         ensures room { length self.new.bytes.items ≡ length self.old.bytes.items }
         ensures held { held self.new ≡ drop count (held self.old) }
+        ensures block { block self.new ≡ block self.old }
         ensures offset { self.new.offset ≡ self.old.offset + count }
+        ensures begins { self.new.offset - self.new.passed ≡ self.old.offset - self.old.passed }
     {
         self.start += count;
+        self.passed += count;
         self.offset += count;
     }
 
@@ -77,6 +104,8 @@ impl Window {
         ensures window { IsWindow self.new }
         ensures room { length self.new.bytes.items ≡ length self.old.bytes.items }
         ensures held { held self.new ≡ drop ((at - margin) - self.old.offset) (held self.old) }
+        ensures block { block self.new ≡ block self.old }
+        ensures begins { self.new.offset - self.new.passed ≡ self.old.offset - self.old.passed }
         ensures from { AreHeldFrom margin at self.new }
     {
         self.pass(at.saturating_sub(margin) - self.offset);
@@ -95,7 +124,10 @@ impl Window {
             × (held self.new ≡ held self.old ++ piece) }
         ensures sound { IsSoundReading reading.new (R.remaining reader.new) }
         ensures more { IsOpen reading.new → length (held self.old) < length (held self.new) }
+        ensures once { length (held self.new) ≤ length (held self.old) + reading.new.last }
+        ensures begins { self.new.passed ≡ 0 }
     {
+        self.passed = 0;
         let known = self.offset + (self.end - self.start);
         if known == usize::MAX {
             return reading.stop(known);
@@ -106,7 +138,8 @@ impl Window {
         self.end += count;
     }
 
-    /// Reads until this many bytes are held, or no more can be read.
+    /// Begins a block. Reads until this many bytes are held, or no more can be read. Before the last read fewer were
+    /// held.
     pub(crate) fn fill<R: Read>(&mut self, reader: &mut R, reading: &mut Reading, enough: usize)
         requires window { IsWindow self.old }
         requires room { enough ≤ length self.old.bytes.items }
@@ -118,7 +151,10 @@ impl Window {
             × (held self.new ≡ held self.old ++ piece) × HasReadOn reading.old piece reading.new }
         ensures sound { IsSoundReading reading.new (R.remaining reader.new) }
         ensures enough { IsOpen reading.new → enough ≤ length (held self.new) }
+        ensures needed { (held self.new ≡ held self.old) ⊎ (length (held self.new) < enough + reading.new.last) }
+        ensures begins { self.new.passed ≡ 0 }
     {
+        self.passed = 0;
         while reading.is_open() {
             if self.held().len() >= enough {
                 return;
@@ -130,12 +166,14 @@ impl Window {
     /// Moves the held bytes to the front if they reach the end of the room, or if there are none.
     fn make_room(&mut self)
         requires window { IsWindow self.old }
+        requires begins { self.old.passed ≡ 0 }
         requires room { length (held self.old) < length self.old.bytes.items }
         ensures window { IsWindow self.new }
         ensures room { self.new.end < length self.new.bytes.items }
         ensures same_room { length self.new.bytes.items ≡ length self.old.bytes.items }
         ensures held { held self.new ≡ held self.old }
         ensures offset { self.new.offset ≡ self.old.offset }
+        ensures begins { self.new.passed ≡ 0 }
     {
         if self.end == self.bytes.len() || self.start == self.end {
             self.bytes.copy_within(self.start..self.end, 0);

@@ -1,21 +1,27 @@
 //! The search for whole words, by tables that are owned or lent. Lent tables may be wrong: if a number points outside
 //! the rows, the answer is `Damaged`. Next to an occurrence it looks up the sides of the haystack: as many bytes, the
 //! haystack itself or others.
-ghost use Rattle.std.specs.Prelude.{◌≡◌, ◌+◌, ◌-◌, ◌*◌, ◌<◌, ◌≤◌, ℕ, IfOk, IfSome, MatchOption, None, false, length};
+ghost use Rattle.std.specs.Prelude.{◌≡◌, ◌+◌, ◌-◌, ◌*◌, ◌<◌, ◌≤◌, ℕ, IfOk, IfSome, MatchOption, None, OnErr};
+ghost use Rattle.std.specs.Prelude.{false, length};
 ghost use Rattle.std.specs.Result.{IsOkAnd};
 ghost use Rattle.literal_base.specs.Leftmost.{IsLeftmost};
 ghost use Rattle.literal_base.specs.Occurs.{IsValidSpan, between};
 ghost use Rattle.literal_base.specs.declared.packed.MatchKind.TheVariants.{LeftmostFirst, LeftmostLongest};
 ghost use Rattle.literal_search.specs.MatchesValue.{offset_after_start};
-ghost use Rattle.literal_search.specs.SearchValue.{ScansNext, looked_by};
-ghost use Rattle.literal_search.specs.WholeWords.{IsFirstAloneBy, ScansFirstWordBy, ScansWordsAtMost};
+ghost use Rattle.literal_search.specs.LookUps.{LooksOn, ScansNext, ScansRest, no_look_ups};
+ghost use Rattle.literal_search.specs.WholeWords.{IsFirstAloneBy, ScansFirstWordBy, ScansWordsBy, ScansWordsRest};
 ghost use Rattle.literal_search.specs.WholeWords.{is_word_at, is_word_before};
 ghost use Rattle.literal_search.specs.Inside.Backward.{ForBackward, IsMatchBy, IsSafe};
-ghost use Rattle.literal_search.specs.Inside.WholeWords.{AreKnownStarts, ForWords, IsBestWord, IsEarlier};
-ghost use Rattle.literal_search.specs.Inside.WholeWords.{IsMatchAtStart, IsWordAt, ScansEnds, whole_words_value};
+ghost use Rattle.literal_search.specs.Inside.Cursor.{FitsIn};
+ghost use Rattle.literal_search.specs.At.{IsMatchIn};
+ghost use Rattle.literal_search.specs.Inside.WholeWords.{AreKnownStarts, AreShorter, ForWords, IsBestHere, IsBestWord};
+ghost use Rattle.literal_search.specs.Inside.WholeWords.{IsEarlier, IsMatchAtStart, IsMatchWithin, IsWordAt, ScansEnds};
+ghost use Rattle.literal_search.specs.Inside.WholeWords.{starts_looked_up, whole_words_value};
 
-use crate::backward::{Backward, Continuation, LEAST, Marks, no_marks, offset_after};
+use crate::backward::{Backward, Continuation};
+use crate::cursor::Cursor;
 use crate::prepared::Damaged;
+use crate::walk::NOTHING;
 use literal_base::alphabet::ByteSet;
 use literal_base::count::Tally;
 use literal_base::packed::MatchKind;
@@ -28,28 +34,6 @@ pub struct Words<'t> {
     pub kind: MatchKind,
     pub backward: Backward<'t>,
     pub word_bytes: ByteSet,
-}
-
-/// The offset from which the next start of a pattern is looked for, and the starts that are known from there on.
-#[derive(Clone, Copy)]
-pub struct KnownStarts {
-    pub at: usize,
-    pub numbers: [u32; LEAST],
-    pub marks: Marks,
-}
-
-impl KnownStarts {
-    /// No start is known from an offset on.
-    pub fn new(at: usize) -> KnownStarts
-        ensures at { result.at ≡ at }
-        ensures marks { result.marks ≡ record { first = at; upto = at; known = at; part = 0 } }
-    {
-        KnownStarts {
-            at,
-            numbers: [0; LEAST],
-            marks: no_marks(at),
-        }
-    }
 }
 
 impl<'t> Words<'t> {
@@ -80,11 +64,11 @@ impl<'t> Words<'t> {
         ensures lies { IfOk result (λ answer. IfSome answer (IsMatchBy self.now.backward span span.start)) }
         ensures scans { IfOk result (λ answer. ScansFirstWordBy self.now.backward.table.longest span answer
             tally.old tally.new) }
-        ensures most { ScansWordsAtMost self.now.backward.table.longest span span.start span.end span.start span.end
-            tally.old tally.new }
+        ensures rest { ScansWordsRest self.now.backward.table.longest span span.start no_look_ups tally.old tally.new }
     {
-        let starts = &mut KnownStarts::new(span.start);
-        self.next_word(haystack, sides, span, span.start, starts, tally)
+        let mut starts = Cursor::new(span.start);
+        starts.make_room(self.backward.table.longest, span);
+        self.next_word(haystack, sides, span, span.start, &mut starts, tally)
     }
 
     /// The next whole word from an offset on. The starts are looked for from an offset before it on.
@@ -94,7 +78,7 @@ impl<'t> Words<'t> {
         sides: &[u8],
         span: Span,
         at: usize,
-        starts: &mut KnownStarts,
+        starts: &mut Cursor,
         tally: &mut Tally,
     ) -> Result<Option<Match>, Damaged>
         requires starts { AreKnownStarts self.now haystack.now span starts.old }
@@ -106,18 +90,18 @@ impl<'t> Words<'t> {
         ensures lies { IfOk result (λ answer. IfSome answer (IsMatchBy self.now.backward span at)) }
         ensures starts { IfOk result (λ _. AreKnownStarts self.now haystack.now span starts.new) }
         ensures at { IfOk result (λ answer. starts.new.at ≡ offset_after_start span answer) }
-        ensures further { IfOk result (λ _. starts.old.marks.known ≤ starts.new.marks.known) }
-        ensures scans { IfOk result (λ _. ScansWordsAtMost self.now.backward.table.longest span starts.old.at
-            starts.new.at starts.old.marks.known starts.new.marks.known tally.old tally.new) }
-        ensures least { IfOk result (λ _. self.now.backward.table.longest ≤ LEAST
-            → tally.old.scanned + looked_by self.now.backward.table.longest span starts.new.marks.known
-            ≤ tally.new.scanned + looked_by self.now.backward.table.longest span starts.old.marks.known) }
-        ensures most { ScansWordsAtMost self.now.backward.table.longest span starts.old.at span.end
-            starts.old.marks.known span.end tally.old tally.new }
+        ensures looks { IfOk result (λ _. LooksOn self.now.backward.table.longest span starts.new.at
+            (starts_looked_up self.now span starts.old) (starts_looked_up self.now span starts.new)) }
+        ensures scans { IfOk result (λ _. ScansWordsBy self.now.backward.table.longest starts.old.at starts.new.at
+            (starts_looked_up self.now span starts.old) (starts_looked_up self.now span starts.new) tally.old
+            tally.new) }
+        ensures rest { ScansWordsRest self.now.backward.table.longest span starts.old.at
+            (starts_looked_up self.now span starts.old) tally.old tally.new }
+        ensures fits { OnErr result (FitsIn self.now.backward.table.longest span starts.new.room) }
         ensures ended { starts.old.at ≡ span.end → IsOkAnd result (λ answer. answer ≡ None) }
     {
         while let Some(found) = self.next_start(haystack, span, starts, tally)? {
-            if let Some(word) = self.best_word(haystack, sides, found.span(), at, tally)? {
+            if let Some(word) = self.best_word(haystack, sides, found, at, tally)? {
                 return Ok(Some(word));
             }
         }
@@ -129,7 +113,7 @@ impl<'t> Words<'t> {
         &self,
         haystack: &[u8],
         span: Span,
-        starts: &mut KnownStarts,
+        starts: &mut Cursor,
         tally: &mut Tally,
     ) -> Result<Option<Match>, Damaged>
         requires starts { AreKnownStarts self.now haystack.now span starts.old }
@@ -138,119 +122,144 @@ impl<'t> Words<'t> {
         ensures lies { IfOk result (λ answer. IfSome answer (IsMatchBy self.now.backward span starts.old.at)) }
         ensures starts { IfOk result (λ _. AreKnownStarts self.now haystack.now span starts.new) }
         ensures at { IfOk result (λ answer. starts.new.at ≡ offset_after_start span answer) }
-        ensures further { IfOk result (λ _. starts.old.marks.known ≤ starts.new.marks.known) }
-        ensures others { tally.new ≡ record tally.old { scanned = tally.new.scanned } }
-        ensures most { tally.new.scanned ≤ tally.old.scanned + 3 * (span.end - starts.old.marks.known) }
-        ensures scans { IfOk result (λ answer. ScansNext self.now.backward.table.longest span starts.old.at
-            starts.old.marks.known starts.new.marks.known answer tally.old tally.new) }
+        ensures looks { IfOk result (λ _. LooksOn self.now.backward.table.longest span starts.new.at
+            (starts_looked_up self.now span starts.old) (starts_looked_up self.now span starts.new)) }
+        ensures scans { IfOk result (λ _. ScansNext (starts_looked_up self.now span starts.old)
+            (starts_looked_up self.now span starts.new) tally.old tally.new) }
+        ensures rest { ScansRest self.now.backward.table.longest span (starts_looked_up self.now span starts.old)
+            tally.old tally.new }
+        ensures fits { OnErr result (FitsIn self.now.backward.table.longest span starts.new.room) }
         ensures ended { starts.old.at ≡ span.end → IsOkAnd result (λ answer. answer ≡ None) }
     {
-        let on = Continuation::AfterStart;
-        let KnownStarts { at, numbers, marks } = starts;
-        let answer = self
-            .backward
-            .next_in(haystack, span, *at, on, numbers, marks, tally)?;
-        *at = offset_after(on, span, &answer);
-        Ok(answer)
+        self.backward
+            .next_in(haystack, span, Continuation::AfterStart, starts, tally)
     }
 
-    /// The whole word that the match kind prefers, of those that begin at the start of a span and lie whole in it. If
-    /// the span begins before the offset `from`, there is none.
+    /// The whole word that the match kind prefers, of those that begin where a match does and lie whole in it. If that
+    /// is before the offset `from`, there is none.
     fn best_word(
         &self,
         haystack: &[u8],
         sides: &[u8],
-        span: Span,
+        found: Match,
         from: usize,
         tally: &mut Tally,
     ) -> Result<Option<Match>, Damaged>
         requires safe { IsSafe self.now.backward }
-        requires valid { IsValidSpan haystack.now span }
+        requires lies { IsMatchWithin self.now haystack.now found }
         requires sides { length sides.now ≡ length haystack.now }
-        ensures best { ForWords self.now (λ parts. IsOkAnd result (λ answer. MatchOption answer
-            (from ≤ span.start → (i : ℕ) → ¬ IsWordAt parts haystack.now sides.now span i)
-            (IsBestWord parts.kind parts haystack.now sides.now span))) }
-        ensures after { IfOk result (λ answer. IfSome answer (λ _. from ≤ span.start)) }
-        ensures lies { IfOk result (λ answer. IfSome answer (IsMatchAtStart self.now span)) }
-        ensures scans { ScansEnds self.now.backward.table.longest span.start (span.end + 1) tally.old tally.new }
+        ensures best { ForWords self.now (λ parts. IsBestHere parts.search haystack.now found
+            → IsOkAnd result (λ answer. MatchOption answer (from ≤ found.start
+            → (i : ℕ) → ¬ IsWordAt parts haystack.now sides.now (between found.start found.end) i)
+            (IsBestWord parts.kind parts haystack.now sides.now (between found.start found.end)))) }
+        ensures after { IfOk result (λ answer. IfSome answer (λ _. from ≤ found.start)) }
+        ensures lies { IfOk result (λ answer. IfSome answer
+            (IsMatchAtStart self.now (between found.start found.end))) }
+        ensures scans { ScansEnds found.start (found.end + 1) tally.old tally.new }
         ensures least { IfOk result (λ _. tally.old.scanned ≤ tally.new.scanned) }
     {
-        if span.start < from {
+        if found.start() < from {
             return Ok(None);
         }
-        if self.is_word_before(sides, span.start, tally) {
+        if self.is_word_before(sides, found.start(), tally) {
             return Ok(None);
         }
         match self.kind {
-            MatchKind::LeftmostLongest => self.longest_word(haystack, sides, span, tally),
-            MatchKind::LeftmostFirst => self.first_word(haystack, sides, span, tally),
+            MatchKind::LeftmostLongest => self.longest_word(haystack, sides, found, tally),
+            MatchKind::LeftmostFirst => self.first_word(haystack, sides, found, tally),
         }
     }
 
-    /// The whole word at the start of a span whose pattern is the first in the list. No word byte is before the span.
+    /// The whole word whose pattern is the first in the list, of those that begin where a match does and lie whole in
+    /// it. No word byte is before the match.
     fn first_word(
         &self,
         haystack: &[u8],
         sides: &[u8],
-        span: Span,
+        found: Match,
         tally: &mut Tally,
     ) -> Result<Option<Match>, Damaged>
         requires safe { IsSafe self.now.backward }
-        requires valid { IsValidSpan haystack.now span }
+        requires lies { IsMatchWithin self.now haystack.now found }
         requires sides { length sides.now ≡ length haystack.now }
-        requires before { is_word_before self.now.word_bytes sides.now span.start ≡ false }
-        ensures best { ForWords self.now (λ parts. IsOkAnd result (λ answer. MatchOption answer
-            ((i : ℕ) → ¬ IsWordAt parts haystack.now sides.now span i)
-            (IsBestWord LeftmostFirst parts haystack.now sides.now span))) }
-        ensures lies { IfOk result (λ answer. IfSome answer (IsMatchAtStart self.now span)) }
-        ensures scans { ScansEnds self.now.backward.table.longest span.start span.end tally.old tally.new }
+        requires before { is_word_before self.now.word_bytes sides.now found.start ≡ false }
+        ensures best { ForWords self.now (λ parts. IsBestHere parts.search haystack.now found
+            → IsOkAnd result (λ answer. MatchOption answer
+            ((i : ℕ) → ¬ IsWordAt parts haystack.now sides.now (between found.start found.end) i)
+            (IsBestWord LeftmostFirst parts haystack.now sides.now (between found.start found.end)))) }
+        ensures lies { IfOk result (λ answer. IfSome answer
+            (IsMatchAtStart self.now (between found.start found.end))) }
+        ensures scans { ScansEnds found.start found.end tally.old tally.new }
         ensures least { IfOk result (λ _. tally.old.scanned ≤ tally.new.scanned) }
     {
         let mut first = None;
-        let mut rest = span;
-        while let Some(found) = self.longest_word(haystack, sides, rest, tally)? {
-            first = Some(earlier(first, found));
-            rest.end = found.end() - 1;
+        let mut next = Some(found);
+        while let Some(here) = next {
+            if !self.is_word_at(sides, here.end(), tally) {
+                first = Some(earlier(first, here));
+            }
+            next = self.shorter(haystack, here)?;
         }
         Ok(first)
     }
 
-    /// The longest whole word at the start of a span. No word byte is before the span.
+    /// The longest whole word of those that begin where a match does and lie whole in it. No word byte is before the
+    /// match.
     fn longest_word(
         &self,
         haystack: &[u8],
         sides: &[u8],
-        span: Span,
+        found: Match,
         tally: &mut Tally,
     ) -> Result<Option<Match>, Damaged>
         requires safe { IsSafe self.now.backward }
-        requires valid { IsValidSpan haystack.now span }
+        requires lies { IsMatchWithin self.now haystack.now found }
         requires sides { length sides.now ≡ length haystack.now }
-        requires before { is_word_before self.now.word_bytes sides.now span.start ≡ false }
-        ensures best { ForWords self.now (λ parts. IsOkAnd result (λ answer. MatchOption answer
-            ((i : ℕ) → ¬ IsWordAt parts haystack.now sides.now span i)
-            (IsBestWord LeftmostLongest parts haystack.now sides.now span))) }
-        ensures lies { IfOk result (λ answer. IfSome answer (IsMatchAtStart self.now span)) }
-        ensures scans { ScansEnds self.now.backward.table.longest span.start span.end tally.old tally.new }
+        requires before { is_word_before self.now.word_bytes sides.now found.start ≡ false }
+        ensures best { ForWords self.now (λ parts. IsBestHere parts.search haystack.now found
+            → IsOkAnd result (λ answer. MatchOption answer
+            ((i : ℕ) → ¬ IsWordAt parts haystack.now sides.now (between found.start found.end) i)
+            (IsBestWord LeftmostLongest parts haystack.now sides.now (between found.start found.end)))) }
+        ensures lies { IfOk result (λ answer. IfSome answer
+            (IsMatchAtStart self.now (between found.start found.end))) }
+        ensures scans { ScansEnds found.start found.end tally.old tally.new }
         ensures least { IfOk result (λ _. tally.old.scanned ≤ tally.new.scanned) }
-        ensures found { IfOk result (λ answer. IfSome answer (λ found.
-            ScansEnds self.now.backward.table.longest (found.end - 1) span.end tally.old tally.new)) }
     {
-        let mut rest = span;
-        while rest.start < rest.end {
-            if self.is_word_at(sides, rest.end, tally) {
-                rest.end -= 1;
-                continue;
+        let mut next = Some(found);
+        while let Some(here) = next {
+            if !self.is_word_at(sides, here.end(), tally) {
+                return Ok(Some(here));
             }
-            let Some(found) = self.backward.find_at(haystack, rest, tally)? else {
-                return Ok(None);
-            };
-            if found.end() == rest.end {
-                return Ok(Some(found));
-            }
-            rest.end = found.end();
+            next = self.shorter(haystack, here)?;
         }
         Ok(None)
+    }
+
+    /// The longest pattern that begins where a match does and ends before its end. It is a link; no byte is looked up.
+    fn shorter(&self, haystack: &[u8], found: Match) -> Result<Option<Match>, Damaged>
+        requires safe { IsSafe self.now.backward }
+        requires lies { IsMatchWithin self.now haystack.now found }
+        ensures next { ForWords self.now (λ parts. IsBestHere parts.search haystack.now found
+            → IsOkAnd result (IsMatchIn parts.search.query parts.search.ignore_case haystack.now
+            (between found.start (found.end - 1)))) }
+        ensures lies { IfOk result (AreShorter self.now haystack.now found.start (found.end - 1)) }
+    {
+        prove!(found.end() <= haystack.len());
+        let backward = &self.backward;
+        let link = *backward
+            .links
+            .get(found.pattern().as_usize())
+            .ok_or(Damaged)?;
+        if link == NOTHING {
+            return Ok(None);
+        }
+        let len = *backward.lens.get(link as usize).ok_or(Damaged)? as usize;
+        let start = found.start();
+        if len == 0 || len >= found.end() - start {
+            return Err(Damaged);
+        }
+        let end = start + len;
+        Ok(Some(Match::must(link as usize, Span { start, end })))
     }
 
     /// Whether a word byte is right before an offset of the sides.

@@ -6,6 +6,7 @@ use crate::WholeWords;
 use crate::sought::Sought;
 use crate::stream::Stream;
 use literal_base::Match;
+use literal_base::count::Tally;
 use std::alloc::{AllocError, Global};
 use std::io::{self, Read};
 use std::marker::Model;
@@ -47,13 +48,14 @@ impl WholeWords {
 #[derive(Drop)]
 pub struct WholeWordStreamMatches<'s, R: Read + Drop> {
     words: &'s WholeWords,
-    stream: Stream<R>,
+    stream: Stream<'s, R>,
 }
 
 impl<'s, R: Read + Drop> Model for WholeWordStreamMatches<'s, R> {
     ghost use Rattle.std.specs.Prelude.{◌≡◌, false};
     ghost use Rattle.literal_search.specs.Stream.{WordStreamValue};
-    ghost use Rattle.literal_search.specs.Inside.Stream.{AreHeldFrom, IsSoundStream, reach_of, stream_value};
+    ghost use Rattle.literal_search.specs.Inside.Stream.{AreHeldFrom, IsSearchIn, IsSoundStream, reach_of};
+    ghost use Rattle.literal_search.specs.Inside.Stream.{stream_value};
     ghost use Rattle.literal_search.specs.declared.sought.Sought.TheVariants.{Words};
 
     ghost Value = { WordStreamValue };
@@ -66,7 +68,8 @@ impl<'s, R: Read + Drop> Model for WholeWordStreamMatches<'s, R> {
 
     ghost invariant = { λ m. m.stream.is_over ≡ false
         → IsSoundStream (reach_of (Words m.words)) m.stream.window m.stream.reading (R.remaining m.stream.reader)
-        × AreHeldFrom 1 m.stream.at m.stream.window };
+        × AreHeldFrom 1 m.stream.at m.stream.window
+        × IsSearchIn (Words m.words) m.stream.window m.stream.at m.stream.ahead };
 }
 
 impl<'s, R: Read + Drop> Iterator for WholeWordStreamMatches<'s, R> {
@@ -81,6 +84,7 @@ impl<'s, R: Read + Drop> Iterator for WholeWordStreamMatches<'s, R> {
     /// An error comes only after every whole word that is known from the bytes read. It is the error of the reader, or
     /// [`io::ErrorKind::FileTooLarge`] if a `usize` cannot count more of the text.
     fn next(&mut self) -> Option<io::Result<Match>> {
-        self.stream.next(Sought::Words(self.words))
+        self.stream
+            .next(Sought::Words(self.words), &mut Tally::new())
     }
 }

@@ -4,13 +4,15 @@ ghost use Rattle.std.specs.Prelude.{◌≡◌, ◌++◌, ◌+◌, ◌-◌, ◌*�
 ghost use Rattle.std.specs.Str.{IsAscii};
 ghost use Rattle.literal_base.specs.Occurs.{IsValidSpan, whole_of};
 ghost use Rattle.literal_search.specs.WholeWords.{AreWholeWordsBy, GivesWordBySides, IsFirstAloneBy, NothingAloneBy};
+ghost use Rattle.literal_search.specs.LookUps.{no_look_ups};
 ghost use Rattle.literal_search.specs.WholeWords.{ScansFirstWord, ScansWords, most_words_by_sides};
 ghost use Rattle.literal_search.specs.WordText.{side_of, sides_of, sides_of_char};
 ghost use Rattle.literal_search.specs.Inside.WholeWords.{AreSidesOf};
 
 use crate::backward::{Continuation, offset_after};
+use crate::cursor::Cursor;
 use crate::whole_words::{Parts, WholeWords};
-use crate::word_search::{KnownStarts, Words};
+use crate::word_search::Words;
 use literal_base::count::Tally;
 use literal_base::{Match, Span};
 use std::alloc::{AllocError, Global};
@@ -31,7 +33,7 @@ use std::marker::Model;
 /// ```
 #[derive(Drop)]
 pub struct WordText<'h> {
-    text: &'h [u8],
+    text: &'h str,
     own_sides: Vec<u8>,
 }
 
@@ -53,14 +55,18 @@ impl<'h> WordText<'h> {
         ensures no_memory { OnErr result (¬ IsAscii text.now) }
     {
         let own_sides = new_sides(alloc, text)?;
-        Ok(WordText {
-            text: text.as_bytes(),
-            own_sides,
-        })
+        Ok(WordText { text, own_sides })
     }
 
     /// Returns the bytes of the text.
     pub fn as_bytes(&self) -> &[u8]
+        ensures { result.now ≡ self.now }
+    {
+        self.text.as_bytes()
+    }
+
+    /// Returns the text.
+    pub fn as_str(&self) -> &str
         ensures { result.now ≡ self.now }
     {
         self.text
@@ -73,7 +79,7 @@ impl<'h> WordText<'h> {
         ensures len { length result.now ≡ length self.now }
     {
         if self.own_sides.is_empty() {
-            self.text
+            self.text.as_bytes()
         } else {
             &self.own_sides
         }
@@ -164,7 +170,7 @@ impl WholeWords {
             span = whole_of text.now;
             at = 0;
             from = 0;
-            known = 0;
+            look_ups = no_look_ups;
           };
           sides = sides_of text.now;
         } }
@@ -187,7 +193,7 @@ impl WholeWords {
             span = span;
             at = span.start;
             from = span.start;
-            known = span.start;
+            look_ups = no_look_ups;
           };
           sides = sides_of text.now;
         } }
@@ -247,21 +253,25 @@ impl WholeWords {
             span = span;
             at = span.start;
             from = span.start;
-            known = span.start;
+            look_ups = no_look_ups;
           };
           sides = sides.now;
         } }
     {
         let (kind, word_bytes) = (self.parts.kind, self.parts.word_bytes);
-        WordMatchesBySides {
+        let words = Words::new(kind, self.parts.search.backward(), word_bytes);
+        let longest = words.backward.table.longest;
+        let mut matches = WordMatchesBySides {
             parts: &self.parts,
-            words: Words::new(kind, self.parts.search.backward(), word_bytes),
+            words,
             haystack,
             sides,
             span,
             at: span.start,
-            starts: KnownStarts::new(span.start),
-        }
+            starts: Cursor::new(span.start),
+        };
+        matches.starts.make_room(longest, span);
+        matches
     }
 }
 
@@ -276,14 +286,14 @@ pub struct WordMatchesBySides<'s, 'h> {
     sides: &'h [u8],
     span: Span,
     at: usize,
-    starts: KnownStarts,
+    starts: Cursor,
 }
 
 impl<'s, 'h> Model for WordMatchesBySides<'s, 'h> {
     ghost use Rattle.std.specs.Prelude.{◌≡◌, ◌≤◌, length};
     ghost use Rattle.literal_search.specs.WholeWords.{WordMatchesBySidesValue};
     ghost use Rattle.literal_search.specs.Inside.WholeWords.{AreKnownStarts, AreWordParts, AreWordsFor, owned_parts};
-    ghost use Rattle.literal_search.specs.Inside.WholeWords.{whole_words_value};
+    ghost use Rattle.literal_search.specs.Inside.WholeWords.{starts_looked_up, whole_words_value};
 
     ghost Value = { WordMatchesBySidesValue };
 
@@ -294,7 +304,7 @@ impl<'s, 'h> Model for WordMatchesBySides<'s, 'h> {
         span = m.span;
         at = m.at;
         from = m.starts.at;
-        known = m.starts.marks.known;
+        look_ups = starts_looked_up m.words m.span m.starts;
       };
       sides = m.sides.now;
     } };
@@ -310,9 +320,8 @@ impl<'s, 'h> WordMatchesBySides<'s, 'h> {
     /// byte of the text.
     pub fn next_counted(&mut self, tally: &mut Tally) -> Option<Match>
         ensures gives { GivesWordBySides self.old result self.new }
-        ensures scans { ScansWords self.old.matches.words.search.query.patterns self.old.matches.span
-            self.old.matches.from self.new.matches.from self.old.matches.known self.new.matches.known
-            tally.old tally.new }
+        ensures scans { ScansWords self.old.matches.words.search.query.patterns self.old.matches.from
+            self.new.matches.from self.old.matches.look_ups self.new.matches.look_ups tally.old tally.new }
     {
         let (span, at) = (self.span, self.at);
         let haystack = self.haystack;

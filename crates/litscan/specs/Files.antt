@@ -23,11 +23,12 @@ input_name label name = if is_input name then label else name
 
 -- the output for a file of this name, with the text read from it, if it was searched, and the result of its scan. The
 -- output uses this file's own options (the width of numbers).
--- Standard input needs no opening: it is searched unless there is an output file that must not be read
+-- Standard input needs no opening: it is searched unless there is an output file, and the failure says that this is it
 abbrev pub PrintsFile : SearchValue → Options → List ℕ → List ℕ → Bool → Option FileId → List ℕ → Option (List ℕ)
     → Scanned → List ℕ → Type 0
 PrintsFile search options separator label any output name None scanned out =
-    ((is_input name ≡ false) ⊎ IsSome output) × (out ≡ []) × (scanned.count ≡ 0) × IsSome scanned.failure
+    ((is_input name ≡ false) ⊎ (IsSome output × (scanned.failure ≡ Some kind.Deadlock))) × (out ≡ [])
+    × (scanned.count ≡ 0) × IsSome scanned.failure
 PrintsFile search options separator label any output name (Some text) scanned out =
     (own : Options) × AreForFile options own × Scans search own separator any (input_name label name) text scanned out
 

@@ -4,9 +4,10 @@ ghost use Rattle.literal_base.specs.Occurs.{IsValidSpan, between, rest_from};
 ghost use Rattle.literal_base.specs.declared.packed.MatchKind.TheVariants.{LeftmostLongest};
 ghost use Rattle.litscan.specs.Asked.{IsFirstAsked, NothingAsked, OccursAsked, is_asked, is_behind_word};
 ghost use Rattle.litscan.specs.Asked.{is_before_word, is_word_byte, one_asked, stands_alone};
+ghost use Rattle.litscan.specs.Inside.Asked.{GoesAlong};
 
 use crate::options::Options;
-use literal_search::{Match, Search, Span};
+use literal_search::{Match, Matches, Search, Span};
 
 /// Whether a word has an allowed occurrence in a line.
 pub fn has_asked(search: &Search, options: Options, line: &[u8]) -> bool
@@ -44,6 +45,29 @@ pub fn next_asked(search: &Search, options: Options, line: &[u8], from: usize) -
         rest.start = first_start(line, found.start() + 1);
     }
     None
+}
+
+/// The same, where an iteration over the matches in the line continues at `from`. If all matches are allowed, it gives
+/// the next one.
+pub fn next_of(
+    search: &Search,
+    options: Options,
+    line: &[u8],
+    from: usize,
+    matches: &mut Matches<'_, '_>,
+) -> Option<Match>
+    requires longest { search.now.query.kind ≡ LeftmostLongest }
+    requires inside { from ≤ length line.now }
+    requires along { GoesAlong search.now options line.now from matches.old }
+    ensures first { MatchOption result (NothingAsked search.now options line.now (rest_from line.now from))
+        (IsFirstAsked search.now options line.now (rest_from line.now from)) }
+    ensures not_empty { IfSome result (λ found. found.start < found.end) }
+    ensures along { IfSome result (λ found. GoesAlong search.now options line.now found.end matches.new) }
+{
+    if options.whole || options.alone {
+        return next_asked(search, options, line, from);
+    }
+    matches.next()
 }
 
 /// With `-w`: the longest allowed match that begins at `start` and ends at `end` or before.

@@ -1,7 +1,7 @@
 //! Searches files one after another.
 ghost use Rattle.std.specs.Prelude.{◌≡◌, ◌⊎◌, ◌||◌, ℕ, List, Option, Some, IfErr, IfOk, IfSome, OnOk, map};
-ghost use Rattle.std.specs.Prelude.{nat_lt, true};
-ghost use Rattle.std.specs.Option.{is_some};
+ghost use Rattle.std.specs.Prelude.{false, nat_lt, true};
+ghost use Rattle.std.specs.Option.{IsSome, is_some};
 ghost use Rattle.std.specs.Io.KnownBytes.{Appends, Keeps};
 ghost use Rattle.std.specs.List.{flat_map};
 ghost use Rattle.literal_base.specs.declared.packed.MatchKind.TheVariants.{LeftmostLongest};
@@ -9,7 +9,7 @@ ghost use Rattle.litscan.specs.Fault.{IsWriteFault};
 ghost use Rattle.litscan.specs.Files.{AreSearched, PrintsFile, Searched, status_for};
 ghost use Rattle.litscan.specs.Printed.{CannotRead, Reads, ReadsTooMany};
 ghost use Rattle.litscan.specs.Options.{skips_zero};
-ghost use Rattle.litscan.specs.Scans.{HasZero, IsSearched, Scans, is_all};
+ghost use Rattle.litscan.specs.Scans.{BeginsWithoutZero, HasZero, IsSearched, Scans, is_all};
 ghost use Rattle.litscan.specs.declared.fault.Fault.TheVariants.{OutOfMemory};
 
 use crate::device::{Device, ReadsAhead, flush_before_wait};
@@ -203,8 +203,8 @@ fn scan_input<R: BufRead + ReadsAhead, W: Write>(
     scan_told(rt, search, options, separator, any, name, reader, writer)
 }
 
-/// Whether a text is searched as if it were empty, since a zero byte is in the first bytes read. The writer is flushed
-/// first if the read may wait.
+/// Whether a text is searched as if it were empty, since a zero byte is in the first bytes read. If a text begins with
+/// one, that is found, unless the read fails. The writer is flushed first if the read may wait.
 fn has_zero<R: BufRead + ReadsAhead, W: Write>(
     options: Options,
     reader: &mut Device<R>,
@@ -212,6 +212,8 @@ fn has_zero<R: BufRead + ReadsAhead, W: Write>(
 ) -> Result<bool, Fault>
     ensures zero { IfOk result (λ zero. zero ≡ true
         → (skips_zero options ≡ true) × IfSome (R.remaining reader.old.inner) HasZero) }
+    ensures none { IfOk result (λ zero. zero ≡ false → skips_zero options ≡ true
+        → IfSome (R.remaining reader.old.inner) BeginsWithoutZero ⊎ IsSome reader.new.failure) }
     ensures unread { Keeps (R.remaining reader.old.inner) (R.remaining reader.new.inner) }
     ensures kept { Keeps (W.contents writer.old.inner) (W.contents writer.new.inner) }
     ensures error { IfErr result (IsWriteFault writer.new.failure) }

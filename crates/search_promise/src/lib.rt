@@ -3,10 +3,10 @@
 //! Unless memory or table space runs out, a `Search` is built for exactly the lists without an empty pattern, with an
 //! identifier for each pattern. Its answer in every valid span is the leftmost whole occurrence under the tie rule.
 //! `find_iter` is the greedy list of these, `find_all_in` lists the same matches, and `Overlapping` gives each
-//! occurrence once. A search, or a list, looks up at most three times the bytes of its span, for any patterns and any
-//! number of matches. So does an iteration if no pattern has more than 1,024 bytes; otherwise it looks up at most
-//! eleven times the bytes, plus, for each match, 36 times the larger of 16 and half the longest pattern's length plus
-//! 3. A search by an array into which the `Search` is written has the same answers.
+//! occurrence once. A search looks up at most three times the bytes of its span, for any patterns. So does a list or an
+//! iteration, for any number of matches, if no pattern has 262,000 bytes; for each whole 262,000 bytes of the longest
+//! pattern it may look up each byte once more. A search by an array into which the `Search` is written has the same
+//! answers.
 //!
 //! The contract of [`search_any_list`] says all of this, and is proved only from public contracts and laws.
 //! `test_calls::callers::any_list` runs it.
@@ -15,11 +15,11 @@
 ghost use Rattle.std.specs.Prelude.{◌≡◌, ◌+◌, ◌<◌, ◌≤◌, IfErr, IfOk, MatchResult, OnErr, length};
 ghost use Rattle.literal_base.specs.Greedy.{IsGreedy};
 ghost use Rattle.literal_base.specs.Leftmost.{IsLeftmost};
-ghost use Rattle.literal_base.specs.Occurs.{IsValidSpan, whole_of};
+ghost use Rattle.literal_base.specs.Occurs.{IsValidSpan};
 ghost use Rattle.literal_search.specs.Earliest.{IsEarliestEnd};
 ghost use Rattle.literal_search.specs.Overlapping.{IsOverlapping};
 ghost use Rattle.literal_search.specs.Prepared.{RefusesToPrepare};
-ghost use Rattle.literal_search.specs.SearchValue.{CanBeKept, ScansListAtMost, ScansThrice, ScansWithin};
+ghost use Rattle.literal_search.specs.SearchValue.{CanBeKept, ScansListAtMost, ScansWithin};
 ghost use Rattle.search_promise.specs.AnyList.{IsKeptOrWritten, RefusesAnyList, searched_for};
 
 use literal_base::laws::greedy_is_unique;
@@ -93,12 +93,13 @@ pub fn search_any_list(
         once.old once.new) }
     ensures greedy { IfOk result (λ any. IsGreedy (searched_for asked.now).query asked.now.ignore_case
         haystack.now 0 any.searched.all.items) }
-    ensures iteration { IfOk result (λ any. ScansListAtMost (searched_for asked.now).query.patterns
-        (length haystack.now) (length any.searched.all.items) iterated.old iterated.new) }
+    ensures iteration { IfOk result (λ _. ScansListAtMost (searched_for asked.now).query.patterns
+        (length haystack.now) iterated.old iterated.new) }
     ensures overlapping { IfOk result (λ any. IsOverlapping (searched_for asked.now).query.patterns
         asked.now.ignore_case haystack.now span any.occurring.all.items) }
     ensures same_list { IfOk result (λ any. any.searched.list.items ≡ any.searched.all.items) }
-    ensures list { IfOk result (λ _. ScansThrice (whole_of haystack.now) listed.old listed.new) }
+    ensures list { IfOk result (λ _. ScansListAtMost (searched_for asked.now).query.patterns (length haystack.now)
+        listed.old listed.new) }
     ensures by_array { IfOk result (λ any. MatchResult any.by_array
         (IsLeftmost (searched_for asked.now).query asked.now.ignore_case haystack.now span)
         (RefusesToPrepare (searched_for asked.now) array.old)) }
@@ -136,12 +137,13 @@ fn search(
         once.old once.new) }
     ensures greedy { IfOk result (λ searched. IsGreedy (searched_for asked.now).query asked.now.ignore_case
         haystack.now 0 searched.all.items) }
-    ensures iteration { IfOk result (λ searched. ScansListAtMost (searched_for asked.now).query.patterns
-        (length haystack.now) (length searched.all.items) iterated.old iterated.new) }
+    ensures iteration { IfOk result (λ _. ScansListAtMost (searched_for asked.now).query.patterns
+        (length haystack.now) iterated.old iterated.new) }
     ensures each { IfOk result (λ _. iterated.old.scanned + length haystack.now ≤ iterated.new.scanned) }
     ensures greedy_list { IfOk result (λ searched. IsGreedy (searched_for asked.now).query asked.now.ignore_case
         haystack.now 0 searched.list.items) }
-    ensures list { IfOk result (λ _. ScansThrice (whole_of haystack.now) listed.old listed.new) }
+    ensures list { IfOk result (λ _. ScansListAtMost (searched_for asked.now).query.patterns (length haystack.now)
+        listed.old listed.new) }
     ensures listed_each { IfOk result (λ _. listed.old.scanned + length haystack.now ≤ listed.new.scanned) }
 {
     let search = search_for(alloc, asked)?;
@@ -176,8 +178,8 @@ fn taken_in_turn(
 ) -> Result<Vec<Match>, AllocError>
     ensures greedy { IfOk result (λ taken. IsGreedy search.now.query search.now.ignore_case haystack.now 0
         taken.items) }
-    ensures bounded { IfOk result (λ taken. ScansListAtMost search.now.query.patterns (length haystack.now)
-        (length taken.items) iterated.old iterated.new) }
+    ensures bounded { IfOk result (λ _. ScansListAtMost search.now.query.patterns (length haystack.now) iterated.old
+        iterated.new) }
     ensures each { IfOk result (λ _. iterated.old.scanned + length haystack.now ≤ iterated.new.scanned) }
     ensures no_memory { OnErr result (0 < length search.now.query.patterns) }
 {

@@ -11,6 +11,8 @@ mod builders;
 #[cfg(test)]
 mod confirming;
 #[cfg(test)]
+mod counted;
+#[cfg(test)]
 mod exact;
 #[cfg(test)]
 mod folding;

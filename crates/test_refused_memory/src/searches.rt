@@ -37,6 +37,10 @@ fn builds(rt: &impl Abort, alloc: Global, ignore_case: bool, has_table: bool) {
 #[test]
 fn new_of_a_search(rt: HostRuntime) {
     builds(&rt, rt.alloc(), false, false);
+}
+
+#[test]
+fn new_of_a_search_with_a_table(rt: HostRuntime) {
     builds(&rt, rt.alloc(), true, true);
 }
 
@@ -95,7 +99,7 @@ fn build_long(alloc: Global) -> Result<Search, BuildError> {
     Search::new(alloc, MatchKind::LeftmostFirst, false, [LONG.as_slice()])
 }
 
-/// The empty list. It allocates only if a pattern is longer than a block.
+/// The empty list. It takes no memory.
 fn list_nothing(search: &Search) -> Result<Vec<Match>, AllocError> {
     search.find_all(b"qq")
 }
@@ -104,10 +108,7 @@ fn list_nothing(search: &Search) -> Result<Vec<Match>, AllocError> {
 fn find_all_of_a_long_pattern(rt: HostRuntime) -> Result<(), AllocError> {
     let built = build_long(rt.alloc()).or(Err(AllocError));
     let search = built?;
-    let none = match list_nothing(&search) {
-        Ok(none) => none,
-        Err(_) => list_nothing(&search).expect(&rt, "it was refused again"),
-    };
+    let none = list_nothing(&search).expect(&rt, "it takes no memory");
     assert!(rt; none.is_empty());
     Ok(())
 }

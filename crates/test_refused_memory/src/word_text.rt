@@ -78,3 +78,55 @@ fn replace_text_all_of_a_word_text(rt: HostRuntime) -> Result<(), AllocError> {
     assert!(rt; bytes.as_slice() == "éaxe <what is put in place of a word>".as_bytes());
     Ok(())
 }
+
+/// A text with a word and a longer word.
+const LENGTHS: &str = "Maße, ein Maß, ein Fuß und was sonst dahinter steht";
+
+/// The text with its whole words replaced, or by the sides of its characters.
+fn replaced_in_text(
+    alloc: Global,
+    words: &[String],
+    text: Option<&WordText<'_>>,
+) -> Result<Result<String, ReplaceError>, BuildError> {
+    let set = WholeWords::ascii_word_bytes();
+    let patterns = words.iter().map(|word| word.as_bytes());
+    let search = WholeWords::new(alloc, MatchKind::LeftmostFirst, false, set, patterns)?;
+    Ok(match text {
+        Some(text) => search.replace_text_all_str(alloc, text, &["Meter", ""]),
+        None => search.replace_all_str(alloc, LENGTHS, &["Meter", ""]),
+    })
+}
+
+/// Replaces the words, once more if memory is refused.
+fn replaces_in_text(
+    rt: &impl Abort,
+    alloc: Global,
+    text: Option<&WordText<'_>>,
+) -> Result<(), AllocError> {
+    let words = [format!(in alloc; "Maß")?, format!(in alloc; "Fuß")?];
+    let answer = match replaced_in_text(alloc, &words, text) {
+        Ok(Ok(answer)) => answer,
+        Ok(Err(error)) => {
+            assert!(rt; error == ReplaceError::OutOfMemory);
+            let again = replaced_in_text(alloc, &words, text).or(Err(AllocError));
+            again?.expect(rt, "it was refused again")
+        }
+        Err(error) => {
+            assert!(rt; error == BuildError::OutOfMemory);
+            return Ok(());
+        }
+    };
+    assert!(rt; answer.as_str().starts_with("Maße, ein Meter, ein  und"));
+    Ok(())
+}
+
+#[test]
+fn replace_all_str_of_whole_words(rt: HostRuntime) -> Result<(), AllocError> {
+    replaces_in_text(&rt, rt.alloc(), None)
+}
+
+#[test]
+fn replace_text_all_str_of_a_word_text(rt: HostRuntime) -> Result<(), AllocError> {
+    let text = WordText::new(rt.alloc(), LENGTHS)?;
+    replaces_in_text(&rt, rt.alloc(), Some(&text))
+}

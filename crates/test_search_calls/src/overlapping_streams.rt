@@ -86,3 +86,19 @@ fn counting_gives_the_same(rt: HostRuntime) -> Result<(), Fail> {
     assert!(rt; matches.next_counted(tally).is_none());
     Ok(())
 }
+
+/// No byte is read after the end of an occurrence.
+#[test]
+fn no_more_is_read_than_an_occurrence_needs(rt: HostRuntime) -> Result<(), Fail> {
+    let (alloc, text) = (rt.alloc(), b"xabcd....");
+    let search = Overlapping::new(alloc, false, [b"bc".as_slice(), b"abcd"])?;
+    let mut pieces = Pieces {
+        rest: text,
+        step: 1,
+        failing: None,
+    };
+    let first = search.find_overlapping_stream(alloc, &mut pieces)?.next();
+    assert!(rt; first.ok_or("nothing is found")??.range() == (2..4));
+    assert!(rt; pieces.rest.len() == text.len() - 4);
+    Ok(())
+}

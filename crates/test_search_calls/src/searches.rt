@@ -123,11 +123,11 @@ fn tells_what_it_was_built_of(rt: HostRuntime) -> Result<(), Fail> {
     Ok(())
 }
 
-/// It has 6 numbers, one for the pattern, 12 in the rows, 256 for classes, and 40 for the scan for candidates.
+/// It has 6 numbers, two for the pattern, 12 in the rows, 256 for classes, and 40 for the scan for candidates.
 #[test]
 fn tells_how_many_bytes_it_takes(rt: HostRuntime) -> Result<(), Fail> {
     let search = longest_of(rt.alloc(), &[b"ab"])?;
-    assert!(rt; search.memory_usage() == 4 * 315 + 2);
+    assert!(rt; search.memory_usage() == 4 * 317 + 2);
     let wanted = "Search { kind: LeftmostLongest, ignore_case: false, patterns: 1 }";
     assert_prints_as(&rt, rt.alloc(), &search, wanted)?;
     Ok(())
@@ -138,7 +138,7 @@ fn tells_how_many_bytes_it_takes(rt: HostRuntime) -> Result<(), Fail> {
 fn what_never_matches_takes_no_states(rt: HostRuntime) -> Result<(), Fail> {
     let words = [b"ab".as_slice(), b"abc", b"x"];
     let search = first_of(rt.alloc(), &words)?;
-    assert!(rt; search.memory_usage() == 4 * (6 + 3 + 4 * 6 + 256 + 40) + 6);
+    assert!(rt; search.memory_usage() == 4 * (7 + 2 * 3 + 4 * 6 + 256 + 40) + 6);
     assert!(rt;
         search
             .find(b"abc")
@@ -150,7 +150,7 @@ fn what_never_matches_takes_no_states(rt: HostRuntime) -> Result<(), Fail> {
             .is_some_and(|found| found.pattern().as_usize() == 2)
     );
     let search = longest_of(rt.alloc(), &words)?;
-    assert!(rt; search.memory_usage() == 4 * (6 + 3 + 7 * 6 + 256 + 40) + 6);
+    assert!(rt; search.memory_usage() == 4 * (7 + 2 * 3 + 7 * 6 + 256 + 40) + 6);
     assert!(rt;
         search
             .find(b"abc")
@@ -164,7 +164,7 @@ fn what_never_matches_takes_no_states(rt: HostRuntime) -> Result<(), Fail> {
 #[test]
 fn overlapping_tells_how_many_bytes_it_takes(rt: HostRuntime) -> Result<(), Fail> {
     let search = Overlapping::new(rt.alloc(), false, [b"ab".as_slice()])?;
-    assert!(rt; search.memory_usage() == 4 * 318 + 2);
+    assert!(rt; search.memory_usage() == 4 * 319 + 2);
     let wanted = "Overlapping { ignore_case: false, patterns: 1 }";
     assert_prints_as(&rt, rt.alloc(), &search, wanted)?;
     Ok(())

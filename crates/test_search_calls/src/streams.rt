@@ -1,6 +1,6 @@
 //! Texts that may continue, and texts that are read in pieces.
 use crate::made::{first_of, longest_of};
-use crate::pieces::Pieces;
+use crate::pieces::{Interrupted, Pieces, Unflushed};
 use literal_search::{Match, MatchKind, ReplaceStreamError, Search, SoFar, Span, Tally};
 use std::alloc::Global;
 use std::io::{self, ErrorKind, Write};
@@ -233,5 +233,85 @@ fn a_failed_write_ends_it(rt: HostRuntime) -> Result<(), Fail> {
         return Err(Fail::from("no such error"));
     };
     assert!(rt; error.kind() == ErrorKind::WriteZero);
+    Ok(())
+}
+
+/// A reader of one byte per call.
+fn one_by_one(rest: &[u8]) -> Pieces<'_> {
+    Pieces {
+        rest,
+        step: 1,
+        failing: None,
+    }
+}
+
+/// A match is given once twice the longest pattern's length is read from where the search continues.
+#[test]
+fn no_more_is_read_than_a_match_needs(rt: HostRuntime) -> Result<(), Fail> {
+    let (alloc, text) = (rt.alloc(), b"xabcd................");
+    let (search, mut pieces) = (first_of(alloc, &[b"abcd", b"bc"])?, one_by_one(text));
+    let first = search.find_stream(alloc, &mut pieces)?.next();
+    assert!(rt; first.ok_or("nothing is found")??.range() == (1..5));
+    assert!(rt; pieces.rest.len() == text.len() - 8);
+    let (mut pieces, mut narrow) = (one_by_one(text), Narrow { room: 0 });
+    let failed = search.replace_stream(alloc, &mut pieces, &mut narrow, &[b"12", b"3"]);
+    assert!(rt; matches!(failed, Err(ReplaceStreamError::WriteFailed(_))));
+    assert!(rt; pieces.rest.len() == text.len() - 8);
+    Ok(())
+}
+
+/// The caller may go on, but the stream has ended.
+#[test]
+fn an_interrupted_read_is_an_error(rt: HostRuntime) -> Result<(), Fail> {
+    let (alloc, search) = (rt.alloc(), first_of(rt.alloc(), &[b"ab"])?);
+    let mut reader = Interrupted {
+        rest: b"xxab",
+        at: Some(3),
+    };
+    let mut matches = search.find_stream(alloc, &mut reader)?;
+    assert!(rt; is_error_of_kind(matches.next(), ErrorKind::Interrupted));
+    assert!(rt; matches.next().is_none());
+    drop(matches);
+    assert!(rt; reader.rest == b"xab".as_slice());
+    reader.at = Some(3);
+    let mut written = Vec::new(alloc);
+    let failed = search.replace_stream(alloc, &mut reader, &mut written, &[b"1"]);
+    let Err(ReplaceStreamError::ReadFailed(error)) = failed else {
+        return Err(Fail::from("no such error"));
+    };
+    assert!(rt; error.kind() == ErrorKind::Interrupted && reader.rest == b"xab".as_slice());
+    Ok(())
+}
+
+#[test]
+fn the_writer_is_not_flushed(rt: HostRuntime) -> Result<(), Fail> {
+    let (alloc, search) = (rt.alloc(), first_of(rt.alloc(), &[b"ab"])?);
+    let mut writer = Unflushed {
+        count: 0,
+        is_flushed: false,
+    };
+    search.replace_stream(alloc, &mut b"xabx".as_slice(), &mut writer, &[b"1"])?;
+    assert!(rt; writer.count == 3 && !writer.is_flushed);
+    Ok(())
+}
+
+/// By calls of a function too.
+#[test]
+fn a_failed_read_is_told_as_one(rt: HostRuntime) -> Result<(), Fail> {
+    let (alloc, search) = (rt.alloc(), first_of(rt.alloc(), &[b"abcd", b"bc"])?);
+    let mut pieces = Pieces {
+        rest: b"xabcdabc?",
+        step: 3,
+        failing: Some(3),
+    };
+    let mut written = Vec::new(alloc);
+    let failed = search.replace_stream_with(alloc, &mut pieces, &mut written, |_, _, writer| {
+        writer.write_all(b"-")
+    });
+    let Err(ReplaceStreamError::ReadFailed(error)) = failed else {
+        return Err(Fail::from("no such error"));
+    };
+    assert!(rt; error.kind() == ErrorKind::TimedOut);
+    assert!(rt; written.as_slice() == b"x-".as_slice());
     Ok(())
 }

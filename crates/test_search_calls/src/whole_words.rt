@@ -66,9 +66,21 @@ fn example_of_whole_words_by_an_array(rt: HostRuntime) -> Result<(), Fail> {
     let mut array = vec![in alloc; 0; search.prepared_len()]?;
     search.prepare(&mut array)?;
     let set = WholeWords::ascii_word_bytes();
-    let words = PreparedWords::new(Prepared::new(&array)?, MatchKind::LeftmostFirst, set);
+    let words = PreparedWords::new(Prepared::new(&array)?, MatchKind::LeftmostFirst, set)?;
     let found = words.find_in(b"Yorkers, York", Span { start: 0, end: 13 })?;
     assert!(rt; found == Some(Match::must(0, Span { start: 9, end: 13 })));
+    Ok(())
+}
+
+/// Whole words are found by an array that prefers the longest match.
+#[test]
+fn words_by_an_array_of_the_other_kind_are_refused(rt: HostRuntime) -> Result<(), Fail> {
+    let (alloc, set) = (rt.alloc(), WholeWords::ascii_word_bytes());
+    let search = Search::new(alloc, MatchKind::LeftmostFirst, false, [b"york".as_slice()])?;
+    let mut array = vec![in alloc; 0; search.prepared_len()]?;
+    search.prepare(&mut array)?;
+    let words = PreparedWords::new(Prepared::new(&array)?, MatchKind::LeftmostFirst, set);
+    assert!(rt; words.is_err());
     Ok(())
 }
 
@@ -83,7 +95,7 @@ fn filled(alloc: Global) -> Result<Vec<u32>, Fail> {
 /// The first of them in a text as a whole word, by each iterating or counting call of a search by the array.
 fn by_array(array: &[u32]) -> Result<[Option<Match>; 3], Damaged> {
     let (kind, set) = (MatchKind::LeftmostFirst, WholeWords::ascii_word_bytes());
-    let words = PreparedWords::new(Prepared::new(array)?, kind, set);
+    let words = PreparedWords::new(Prepared::new(array)?, kind, set)?;
     let (haystack, span, tally) = (
         b"yorkers, york",
         Span { start: 0, end: 13 },
@@ -112,7 +124,7 @@ fn whole_words_by_a_damaged_array_end(rt: HostRuntime) -> Result<(), Fail> {
         *number = u32::MAX - 1;
     }
     let set = WholeWords::ascii_word_bytes();
-    let words = PreparedWords::new(Prepared::new(&array)?, MatchKind::LeftmostFirst, set);
+    let words = PreparedWords::new(Prepared::new(&array)?, MatchKind::LeftmostFirst, set)?;
     let mut matches = words.find_iter_in(b"yorkers, york", Span { start: 0, end: 13 });
     assert!(rt; matches.next_match() == Err(Damaged));
     assert!(rt; matches.next_match() == Ok(None));

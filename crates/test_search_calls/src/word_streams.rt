@@ -1,5 +1,5 @@
 //! Whole words in texts that are read in pieces.
-use crate::pieces::Pieces;
+use crate::pieces::{Interrupted, Pieces, Unflushed};
 use literal_search::{BuildError, Match, MatchKind, ReplaceStreamError, Span, WholeWords};
 use std::alloc::Global;
 use std::io::{ErrorKind, Write};
@@ -219,5 +219,45 @@ fn known_words_are_replaced_before_an_error(rt: HostRuntime) -> Result<(), Fail>
     };
     assert!(rt; error.kind() == ErrorKind::TimedOut);
     assert!(rt; written.as_slice() == b"xab 1 ".as_slice());
+    Ok(())
+}
+
+/// A word is given once twice the longest pattern's length and two bytes more are read.
+#[test]
+fn no_more_is_read_than_a_word_needs(rt: HostRuntime) -> Result<(), Fail> {
+    let (alloc, text) = (rt.alloc(), b" ab ............");
+    let search = words_of(alloc, MatchKind::LeftmostFirst, &[b"ab"])?;
+    let mut pieces = Pieces {
+        rest: text,
+        step: 1,
+        failing: None,
+    };
+    let first = search.find_stream(alloc, &mut pieces)?.next();
+    assert!(rt; first.ok_or("nothing is found")??.range() == (1..3));
+    assert!(rt; pieces.rest.len() == text.len() - 6);
+    Ok(())
+}
+
+/// By calls of a function, which do not flush the writer, until a read is interrupted.
+#[test]
+fn a_failed_read_of_words_is_told_as_one(rt: HostRuntime) -> Result<(), Fail> {
+    let alloc = rt.alloc();
+    let search = words_of(alloc, MatchKind::LeftmostFirst, &[b"ab"])?;
+    let mut reader = Interrupted {
+        rest: b"ab ab x",
+        at: Some(2),
+    };
+    let mut writer = Unflushed {
+        count: 0,
+        is_flushed: false,
+    };
+    let failed = search.replace_stream_with(alloc, &mut reader, &mut writer, |_, _, writer| {
+        writer.write_all(b"-")
+    });
+    let Err(ReplaceStreamError::ReadFailed(error)) = failed else {
+        return Err(Fail::from("no such error"));
+    };
+    assert!(rt; error.kind() == ErrorKind::Interrupted && reader.rest == b" x".as_slice());
+    assert!(rt; writer.count == 2 && !writer.is_flushed);
     Ok(())
 }

@@ -90,7 +90,7 @@ fn filled(alloc: Global) -> Result<Vec<u32>, Fail> {
 /// The first word of a haystack by its sides, by each call.
 fn by_array(array: &[u32], sides: &[u8; 17]) -> Result<[Option<Match>; 4], Damaged> {
     let (kind, set) = (MatchKind::LeftmostFirst, WholeWords::ascii_word_bytes());
-    let words = PreparedWords::new(Prepared::new(array)?, kind, set);
+    let words = PreparedWords::new(Prepared::new(array)?, kind, set)?;
     let (haystack, span) = (
         b"\xC3\xA9lan lan\xE2\x86\x92lan\xC2\xB2",
         Span { start: 0, end: 17 },

@@ -27,6 +27,6 @@ shortest-lengths (first ∷ (next ∷ more)) =
 pub many_lengths : (numbers : List ℕ) (patterns : List (List ℕ)) → classes_end numbers ≤ length numbers
     → lengths_in numbers ≡ map (λ (bytes : List ℕ). length bytes) patterns → length patterns ≡ get_or numbers 3 0
 many_lengths numbers patterns fits are =
-    let part = length_part numbers 6 (rows_at numbers) (omega arith) (omega (arith, fits)) in
+    let part = length_part numbers 7 (rows_at numbers) (omega arith) (omega (arith, fits)) in
     let many = ap (λ (l : List ℕ). length l) are ∙ length-map patterns (λ (bytes : List ℕ). length bytes) in
     omega (arith, part, many)

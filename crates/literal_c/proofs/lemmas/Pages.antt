@@ -15,7 +15,7 @@ use Rattle.literal_base.specs.MatchValue.{MatchValue}
 use Rattle.literal_base.specs.Occurs.{NothingOccurs, Occurs, between, rest_from}
 use Rattle.literal_base.specs.Query.{Query}
 use Rattle.literal_search.specs.OverlappingMatchesValue.{GivesOverlapping, OverlappingMatchesValue}
-use Rattle.literal_c.specs.Answers.{AreNext, BeginsNone, IsPage, MayBeFound, match_of}
+use Rattle.literal_c.specs.Answers.{AreNext, BeginsNone, IsPage, MayBeFound, end_of_last, match_of}
 use Rattle.literal_c.specs.declared.LiteralMatch.{LiteralMatch}
 use Rattle.literal_c.specs.declared.LiteralPage.{LiteralPage}
 use Rattle.literal_base.specs.declared.search.Span.{Span}
@@ -70,15 +70,12 @@ module _ (query : Query) (ignore_case : Bool) (haystack : List ℕ) where
   joined end at next last [] (found ∷ more) a b = (first_behind end at next found a b.0, b.1)
   joined end at next last (found ∷ more) second a b = (a.0, joined end found.end next last more second a.1 b)
 
-  -- up to where the next match begins
-  up_to_next : (end at next : ℕ) (all : List MatchValue) (found : MatchValue)
-      → AreNext query ignore_case haystack end at all next
-      → IsLeftmostMatch query ignore_case haystack (between next end) found
-      → AreNext query ignore_case haystack end at all found.start
-  up_to_next end at next all found are is =
-      subst (λ l. AreNext query ignore_case haystack end at l found.start) (append-nil all)
-      (joined end at next found.start all [] are
-      (is.occurs.after_start, λ i p early occurs. is.earliest i p early occurs))
+  -- up to an offset before which no further match begins
+  pub up_to : (end at next last : ℕ) (all : List MatchValue) → AreNext query ignore_case haystack end at all next
+      → BeginsNone query ignore_case haystack end next last → AreNext query ignore_case haystack end at all last
+  up_to end at next last all are none =
+      subst (λ l. AreNext query ignore_case haystack end at l last) (append-nil all)
+      (joined end at next last all [] are none)
 
   -- where nothing is left, they are the greedy list
   pub greedy : (at next : ℕ) (all : List MatchValue)
@@ -119,7 +116,8 @@ module _ (query : Query) (ignore_case : Bool) (haystack : List ℕ) where
       (let p : LiteralPage = record { written = n; next = found.start; is_last = 0 } in p)) (sym count) (record {
         len = len;
         fits = omega (arith, full);
-        matches = up_to_next span.end span.start next (map match_of (take i new)) found are leftmost;
+        matches = up_to span.end span.start next found.start (map match_of (take i new)) are
+            (leftmost.occurs.after_start, λ i p early occurs. leftmost.earliest i p early occurs);
         others = others;
         rest = inr (
           refl,
@@ -128,6 +126,21 @@ module _ (query : Query) (ignore_case : Bool) (haystack : List ℕ) where
           from next found.start span.end found.pattern found.start (omega arith) leftmost.occurs,
         );
       })
+
+-- the last of some matches is the one behind them
+last_is : (at : ℕ) (all : List MatchValue) (found : MatchValue) → end_of_last at (all ++ found ∷ []) ≡ found.end
+last_is at [] found = refl
+last_is at (before ∷ more) found = last_is before.end more found
+
+-- the last match that is written
+pub last_written : (at i : ℕ) (written : List LiteralMatch) (found : LiteralMatch) → i < length written
+    → end_of_last at (map match_of (take (i + 1) (set written i found))) ≡ found.end
+last_written at i written found lt =
+    let list : map match_of (take (i + 1) (set written i found))
+    ≡ map match_of (take i written) ++ match_of found ∷ [] =
+    ap (map match_of) (rw add-one (take-suc-set written i found lt))
+    ∙ map-append match_of (take i written) (found ∷ []) in
+    ap (end_of_last at) list ∙ last_is at (map match_of (take i written)) (match_of found)
 
 -- a match that may be in the rest of a span may be in the span
 pub may_be_in_all : (start next end patterns : ℕ) (found : MatchValue) → start ≤ next

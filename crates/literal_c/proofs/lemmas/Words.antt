@@ -16,7 +16,7 @@ use Rattle.literal_search.specs.PreparedWords.{word_matches_by, words_for}
 use Rattle.literal_search.specs.SearchValue.{search_by}
 use Rattle.literal_search.specs.WholeWords.{AreWholeWordsBy, GivesWholeWordBy, IsFirstAloneBy, IsLeftmostAloneBy}
 use Rattle.literal_search.specs.WholeWords.{NothingAloneBy, OccursAloneBy, WholeWordsValue}
-use Rattle.literal_c.specs.Answers.{match_of}
+use Rattle.literal_c.specs.Answers.{end_of_last, match_of}
 use Rattle.literal_c.specs.Arguments.{kind_of}
 use Rattle.literal_c.specs.Inside.Given.{AreWordsBy}
 use Rattle.literal_c.specs.Words.{ContinueWordsBy, ForAsciiWords, IsWordPageBy}
@@ -128,15 +128,20 @@ module _ (words : WholeWordsValue) (haystack sides : List ℕ) (span : Span) whe
   pub last_page : (old new : List LiteralMatch) (i : ℕ) (page : LiteralPage) → page.written ≡ i → page.is_last ≡ 1
       → length new ≡ length old → i ≤ length new
       → ContinueWordsBy words haystack sides span (map match_of (take i new)) page.next → drop i new ≡ drop i old
+      → page.next ≡ end_of_last span.start (map match_of (take i new))
       → NothingAloneBy words haystack sides (between page.next span.end) → IsWordPageBy words haystack sides span old
       new page
-  last_page old new i page count last len fits so_far others none = record {
+  last_page old new i page count last len fits so_far others next none = record {
     len = len;
     fits = omega (arith, count, fits);
     continue = subst (λ n. ContinueWordsBy words haystack sides span (map match_of (take n new)) page.next) (sym count)
         so_far;
     others = subst (λ n. drop n new ≡ drop n old) (sym count) others;
-    rest = inl (last, none);
+    rest = inl (
+      last,
+      subst (λ n. page.next ≡ end_of_last span.start (map match_of (take n new))) (sym count) next,
+      none,
+    );
   }
 
   -- a full page, with another whole word after it
@@ -155,6 +160,7 @@ module _ (words : WholeWordsValue) (haystack sides : List ℕ) (span : Span) whe
     rest = inr (
       refl,
       omega (arith, count, full),
-      λ none. none found.pattern found.start (from at found.start found.pattern found.start (omega arith) first.occurs),
+      found.pattern,
+      from at found.start found.pattern found.start (omega arith) first.occurs,
     );
   }

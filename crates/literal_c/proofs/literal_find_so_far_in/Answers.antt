@@ -1,5 +1,6 @@
 use Rattle.std.proofs.Common.{List, ℕ, [], arith, subst, sym}
 use Rattle.literal_search.specs.Prepared.{ForPrepared, IsPrepared}
+use Rattle.literal_c.specs.Arguments.{is_set}
 use Rattle.literal_c.specs.SoFar.{IsRight, IsToldBy}
 use Rattle.literal_c.proofs.lemmas.SoFar.{crosses, may_be_all}
 use Rattle.literal_c.proofs.lemmas.Statuses.{damaged}
@@ -9,7 +10,7 @@ pub returns-in-Err-clause-status : goal.returns-in-Err-clause-status
 returns-in-Err-clause-status c =
     damaged _ (λ P. ForPrepared c.args.prepared.now (λ _. P)) _ _ (omega (arith, c.if-start-haystack.false))
     (λ search is _. c.in-Err.ensures.prepared search
-    (subst (IsPrepared search) (sym c.in-Ok.ensures.0) is) [] (may_be_all c.args.more))
+    (subst (IsPrepared search) (sym c.in-Ok.ensures.0) is) [] (may_be_all (is_set c.args.more)))
 
 pub returns-in-Ok-find_so_far-clause-told : goal.returns-in-Ok-find_so_far-clause-told
 returns-in-Ok-find_so_far-clause-told c _ =
@@ -20,7 +21,7 @@ returns-in-Ok-find_so_far-clause-told c _ =
       answer,
       subst (λ status. IsToldBy answer status c.tell_so_far.new.found c.tell_so_far.new.next)
           (sym (crosses answer c.tell_so_far.result c.tell_so_far.new.found c.tell_so_far.new.next told)) told,
-      subst (λ (numbers : List ℕ). IsRight numbers c.args.haystack.now c.args.start c.args.more answer) array
+      subst (λ (numbers : List ℕ). IsRight numbers c.args.haystack.now c.args.start (is_set c.args.more) answer) array
           (record {
             prepared = λ search is behind may. known.prepared search is behind may;
             told = known.told;

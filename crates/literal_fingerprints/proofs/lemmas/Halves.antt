@@ -1,11 +1,9 @@
 -- What operations on vectors of two halves hold in each lane.
 use Rattle.std.proofs.Common.{◌≡◌, ℕ, ◌+◌, ◌-◌, ◌*◌, ◌/◌, ◌<◌, ◌≤◌, ◌∙◌, ◌++◌, List, ap, arith, get_or, inl, inr}
-use Rattle.std.proofs.Common.{drop, length, length-append, refl, subst, sym, take, w8, zero-add}
+use Rattle.std.proofs.Common.{length, length-append, refl, subst, w8, zero-add}
 use Rattle.std.proofs.lemmas.Bool.{cases_lt}
-use Rattle.std.proofs.lemmas.List.{ext_get_or, get_or-append_right, get_or-drop, get_or-take, get_or_append_left}
-use Rattle.std.proofs.lemmas.List.{length-drop, length-take, map-append}
-use Rattle.literal_fingerprints.specs.FingerprintsValue.{HalfTable}
-use Rattle.literal_fingerprints.specs.Inside.Nibbles.{table_of}
+use Rattle.std.proofs.lemmas.List.{get_or-append_right, get_or_append_left}
+use Rattle.std.proofs.lemmas.List.{map-append}
 use Rattle.std.proofs.lemmas.Simd.{Each1-from_get_or, SwzOk, SwzOk-from_below, get_or-chunk, get_or-swz_l_below}
 use Rattle.std.proofs.lemmas.Simd.{length-chunk, length-swz_l, pick_l-range_with_len, swz_l}
 use Rattle.std.specs.List.{range_with_len}
@@ -202,31 +200,3 @@ module _ (js : List ℕ) (low high : ℕ → ℕ) (places : HasHalves js low hig
               get_or-swz_l_below w8 16 table 0 js (16 + k) (omega arith) (omega arith)
               ∙ (ap (λ j. get_or table j 0) place ∙ has.back (high k) least);
         }
-
--- the halves of a vector
-pub front_is : (lanes half : List ℕ) → length lanes ≡ 32 → HasLanes half (λ k. get_or lanes k 0) → half ≡ take 16 lanes
-front_is lanes half long has =
-    ext_get_or 0 half (take 16 lanes) (omega (arith, has.long, long, length-take 16 lanes)) (λ k l.
-    let below : k < 16 = omega (arith, l, has.long) in
-    has.each k below ∙ sym (get_or-take 16 lanes k 0 below))
-
-pub back_is : (lanes half : List ℕ) → length lanes ≡ 32 → HasLanes half (λ k. get_or lanes (16 + k) 0)
-    → half ≡ drop 16 lanes
-back_is lanes half long has =
-    ext_get_or 0 half (drop 16 lanes) (omega (arith, has.long, long, length-drop 16 lanes)) (λ k l.
-    let below : k < 16 = omega (arith, l, has.long) in
-    has.each k below ∙ sym (get_or-drop 16 lanes k 0))
-
-pub same_table : (a b c d : List ℕ) → a ≡ c → b ≡ d
-    → (let t : HalfTable = record { low = a; high = b } in t) ≡ record { low = c; high = d }
-same_table a b c d low high =
-    ap (λ l. let t : HalfTable = record { low = l; high = b } in t) low
-    ∙ ap (λ l. let t : HalfTable = record { low = c; high = l } in t) high
-
-pub table_is : (lanes a b : List ℕ) → length a ≡ 16 → length b ≡ 16
-    → HasHalves lanes (λ k. get_or a k 0) (λ k. get_or b k 0)
-    → table_of lanes ≡ (let t : HalfTable = record { low = a; high = b } in t)
-table_is lanes a b p q has =
-    same_table _ _ _ _
-    (sym (front_is lanes a has.long (record { long = p; each = λ k below. sym (has.front k below) })))
-    (sym (back_is lanes b has.long (record { long = q; each = λ k below. sym (has.back k below) })))

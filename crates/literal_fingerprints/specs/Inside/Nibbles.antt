@@ -1,15 +1,11 @@
 -- The tables as their fields.
-use Rattle.std.specs.Prelude.{ℕ, List, [], ◌∷◌, drop, take}
+use Rattle.std.specs.Prelude.{ℕ, List, [], ◌∷◌}
 use Rattle.literal_fingerprints.specs.FingerprintsValue.{FingerprintsValue, HalfTable}
 use Rattle.literal_fingerprints.specs.declared.nibbles.Nibbles.{Nibbles}
 
 -- a table as contracts see it
 abbrev pub half_table : Nibbles → HalfTable
 half_table nibbles = record { low = nibbles.low; high = nibbles.high }
-
--- the table in a vector of its two halves
-abbrev pub table_of : List ℕ → HalfTable
-table_of lanes = record { low = take 16 lanes; high = drop 16 lanes }
 
 -- the eight halves of the tables
 abbrev pub halves_of : FingerprintsValue → List (List ℕ)

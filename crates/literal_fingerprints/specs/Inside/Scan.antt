@@ -3,19 +3,9 @@ use Rattle.std.specs.Prelude.{◌≡◌, ℕ, ◌+◌, ◌-◌, ◌/◌, ◌%◌
 use Rattle.literal_fingerprints.specs.FingerprintsValue.{FingerprintsValue, HalfTable, PassesAt}
 use Rattle.literal_fingerprints.specs.FingerprintsValue.{shared_buckets}
 use Rattle.literal_fingerprints.specs.Inside.Lanes.{HasHalves}
-use Rattle.literal_fingerprints.specs.Inside.Nibbles.{table_of}
 use Rattle.literal_fingerprints.specs.declared.fingerprints.Passed.{Passed}
 use Rattle.literal_fingerprints.specs.declared.looked_up.LookedUp.{LookedUp}
 use Rattle.literal_fingerprints.specs.declared.looked_up.Tables.{Tables}
-
--- the fingerprints in such vectors
-abbrev pub fingerprints_of : Tables → FingerprintsValue
-fingerprints_of tables = record {
-  first = table_of tables.first;
-  second = table_of tables.second;
-  third = table_of tables.third;
-  fourth = table_of tables.fourth;
-}
 
 -- the buckets of the low nibble of a byte by a table
 abbrev pub low_of : HalfTable → ℕ → ℕ

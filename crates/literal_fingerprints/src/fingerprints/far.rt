@@ -3,12 +3,12 @@ ghost use Rattle.std.specs.Prelude.{◌≡◌, ◌≢◌, ℕ, ◌+◌, ◌-◌,
 ghost use Rattle.literal_base.specs.Occurs.{IsValidSpan};
 ghost use Rattle.literal_fingerprints.specs.FingerprintsValue.{FingerprintsMayStop, NoneBegins, shared_buckets};
 ghost use Rattle.literal_fingerprints.specs.Inside.Lanes.{HasBack, HasLanes, HasWide};
-ghost use Rattle.literal_fingerprints.specs.Inside.Scan.{HasPassed, IsLookedUp, NoneShared, fingerprints_of};
+ghost use Rattle.literal_fingerprints.specs.Inside.Scan.{HasPassed, IsLookedUp, NoneShared};
 ghost use Rattle.literal_fingerprints.specs.Inside.Scan.{shared_highs, shared_lows};
 
 use super::{Fingerprints, Passed};
 use crate::buckets::LOOKED_AT;
-use crate::looked_up::{LookedUp, Tables};
+use crate::looked_up::LookedUp;
 use crate::wide::{
     WIDE, back_half, both_wide, by_high_wide, by_low_wide, load_wide, one_back_wide,
     three_back_wide, twice, two_back_wide, zeros_before_wide,
@@ -20,41 +20,12 @@ use std::simd::prelude::*;
 /// If the low halves of the tables have at most this many bits, few offsets pass by these halves alone.
 const FEW_BITS: u32 = 60;
 
-/// Continues a scan by these tables from an offset. All bytes of the span before it are looked up, and `bytes` are the
-/// last of them.
-#[inline(never)]
-pub(super) fn next_far(
-    tables: Tables,
-    bytes: u8x16,
-    haystack: &[u8],
-    from: usize,
-    span: Span,
-    tally: &mut Tally,
-) -> usize
-    requires valid { IsValidSpan haystack.now span }
-    requires after { span.start + 16 ≤ from }
-    requires inside { from ≤ span.end }
-    requires bytes { HasLanes bytes (λ k. slice_index (take span.end haystack.now) (from - 16 + k)) }
-    requires none { NoneShared (fingerprints_of tables) (take span.end haystack.now) span.start from }
-    ensures inside { result ≤ span.end }
-    ensures far { from ≤ result + 3 }
-    ensures after { span.start ≤ result }
-    ensures passed { NoneBegins (fingerprints_of tables) haystack.now span result }
-    ensures stops { FingerprintsMayStop (fingerprints_of tables) haystack.now span result }
-    ensures others { tally.new ≡ record tally.old { scanned = tally.new.scanned } }
-    ensures once { tally.new.scanned ≤ tally.old.scanned + (span.end - from) }
-    ensures read { tally.old.scanned + result ≤ tally.new.scanned + from }
-    ensures counted { tally.new.scanned + from ≤ tally.old.scanned + result + 35 }
-{
-    let fingerprints = Fingerprints::of_tables(tables);
-    fingerprints.next_by(bytes, haystack, from, span, tally)
-}
-
 impl Fingerprints {
-    /// The same by the fingerprints that the tables are made of.
-    #[inline(always)]
-    fn next_by(
-        &self,
+    /// Continues a scan from an offset. All bytes of the span before it are looked up, and `bytes` are the last of
+    /// them.
+    #[inline(never)]
+    pub(super) fn next_far(
+        self,
         bytes: u8x16,
         haystack: &[u8],
         from: usize,
@@ -65,12 +36,12 @@ impl Fingerprints {
         requires after { span.start + 16 ≤ from }
         requires inside { from ≤ span.end }
         requires bytes { HasLanes bytes (λ k. slice_index (take span.end haystack.now) (from - 16 + k)) }
-        requires none { NoneShared self.now (take span.end haystack.now) span.start from }
+        requires none { NoneShared self (take span.end haystack.now) span.start from }
         ensures inside { result ≤ span.end }
         ensures far { from ≤ result + 3 }
         ensures after { span.start ≤ result }
-        ensures passed { NoneBegins self.now haystack.now span result }
-        ensures stops { FingerprintsMayStop self.now haystack.now span result }
+        ensures passed { NoneBegins self haystack.now span result }
+        ensures stops { FingerprintsMayStop self haystack.now span result }
         ensures others { tally.new ≡ record tally.old { scanned = tally.new.scanned } }
         ensures once { tally.new.scanned ≤ tally.old.scanned + (span.end - from) }
         ensures read { tally.old.scanned + result ≤ tally.new.scanned + from }

@@ -1,9 +1,11 @@
 -- Walks from the right, by an automaton of the reversed patterns.
 use Rattle.std.proofs.Common.{◌≡◌, ℕ, ◌+◌, ◌-◌, ◌%◌, ◌<◌, ◌≤◌, ◌⊎◌, ◌^◌, List, [], ◌∷◌, ◌++◌, length, get_or, drop}
 use Rattle.std.proofs.Common.{Some, None, inl, inr, nat_eq, reverse, sym, ap, subst, ◌∙◌}
-use Rattle.std.proofs.Common.{arith, take}
+use Rattle.std.proofs.Common.{Option, arith, refl, take}
+use Rattle.std.specs.Option.{unwrap_or}
 use Rattle.std.proofs.lemmas.Bool.{cases_lt}
-use Rattle.std.proofs.lemmas.List.{get_or-map, length-map, reverse-append}
+use Rattle.std.proofs.lemmas.List.{get_or-map, length-append, length-map, length-reverse, nil_from_length}
+use Rattle.std.proofs.lemmas.List.{reverse-append}
 use Rattle.std.specs.List.{starts_with}
 use Rattle.literal_base.specs.Counts.{Counts}
 use Rattle.literal_base.specs.Leftmost.{IsBetter, IsLeftmostMatch}
@@ -13,12 +15,14 @@ use Rattle.literal_base.specs.declared.packed.MatchKind.TheVariants.{LeftmostFir
 use Rattle.literal_search.specs.Inside.Classes.{symbols_in}
 use Rattle.literal_search.specs.Inside.Suffixes.{IsSuffix}
 use Rattle.literal_search.specs.Inside.Backward.{AreBackFor, BeginsBest, HasReadBack, IsMark, IsRead, back_tables_by}
+use Rattle.literal_search.specs.Inside.Backward.{NoneBeginsAt}
 use Rattle.literal_search.specs.Inside.Backward.{named_by}
 use Rattle.literal_search.specs.Inside.Walk.{IsAt, text_of}
 use Rattle.literal_search.specs.SearchValue.{reversed, unshadowed}
 use Rattle.literal_search.specs.Prepared.{AreBackTables, BackTables, texts_back, texts_of}
 use Rattle.literal_search.specs.SearchValue.{SearchValue}
-use Rattle.literal_search.specs.Table.{Recognises}
+use Rattle.literal_search.specs.Links.{AreLinks}
+use Rattle.literal_search.specs.Table.{Recognises, nothing}
 use Rattle.literal_search.specs.Words.{ending}
 use Rattle.literal_search.specs.declared.backward.Backward.{Backward}
 use Rattle.literal_search.proofs.lemmas.Found.{occurs_where, some_symbols, stands_where, symbols_length}
@@ -27,7 +31,7 @@ use Rattle.literal_search.proofs.lemmas.FirstSuffix.{first_ends, none_ends}
 use Rattle.literal_search.proofs.lemmas.Reversed.{back_count, back_long, end_is_prefix, prefix_is_end, some_back}
 use Rattle.literal_search.proofs.lemmas.Shadowed.{ending_is_best, ends_unshadowed, some_unshadowed}
 use Rattle.literal_search.proofs.lemmas.Walk.{at_start, at_with_end, at_without_end, row_at}
-use Rattle.literal_search.proofs.lemmas.Walk.{text_split}
+use Rattle.literal_search.proofs.lemmas.Walk.{text_length, text_split}
 
 -- a better pattern is so by its lengths alone
 pub better_by : (kind : MatchKind) (patterns others : List (List ℕ))
@@ -104,6 +108,82 @@ module _ (p : BackTables) (are : AreBackTables p) (haystack : List ℕ) (bytes :
     no_text at =
         let none : at - at ≡ 0 = omega arith in
         ap (λ n. symbols_in p.classes (take n (drop at haystack))) none
+
+    -- the link of a pattern that occurs
+    module _ (longest : p.search.query.kind ≡ LeftmostLongest) (links : List ℕ)
+        (linked : AreLinks (texts_back p) links (length p.search.query.patterns)) (at from i : ℕ)
+        (inside : from ≤ length haystack)
+        (occurs : Occurs p.search.query.patterns p.search.ignore_case haystack (between at from) i at)
+        (whole : from ≡ at + length (pattern_at p.search.query.patterns i))
+      where
+        some : at < from
+        some = omega (arith, whole, longest_some)
+          where
+            longest_some : 0 < length (pattern_at p.search.query.patterns i)
+            longest_some = are.kept.some i [] occurs.is_pattern
+
+        -- it takes up all that is read there
+        read_whole : pattern_at (reversed words) i ≡ read at from
+        read_whole =
+            let is = begin_ends from at (omega (arith, some)) inside i occurs in
+            let long = length-reverse (text_of p.classes haystack (between at from)) in
+            let text_long = text_length p.classes haystack at from (omega (arith, some)) inside in
+            let sum = ap (λ (l : List ℕ). length l) is.ends.split
+            ∙ length-append is.ends.prefix (pattern_at (reversed words) i) in
+            let none = nil_from_length is.ends.prefix (omega (arith, sum, long, text_long, same_long i, whole)) in
+            sym (is.ends.split ∙ ap (λ (l : List ℕ). l ++ pattern_at (reversed words) i) none)
+
+        -- without its first symbol it is what is read one byte before
+        read_less : drop 1 (read at from) ≡ read at (from - 1)
+        read_less =
+            let last = from - 1 in
+            let symbol = get_or p.classes (get_or haystack last 0) 0 in
+            let next : last + 1 ≡ from = omega (arith, some) in
+            let split = text_split p.classes haystack at last (omega (arith, some)) (omega (arith, some, inside)) from
+            (omega (arith, some)) in
+            let end = ap (λ n. text_of p.classes haystack (between n from)) next ∙ no_text from in
+            let back = ap (λ (l : List ℕ). reverse l)
+            (split ∙ ap (λ (l : List ℕ). text_of p.classes haystack (between at last) ++ symbol ∷ l) end)
+            ∙ reverse-append (text_of p.classes haystack (between at last)) (symbol ∷ []) in
+            ap (λ (l : List ℕ). drop 1 l) back
+
+        texts_are : texts_back p ≡ reversed words
+        texts_are = ap (λ k. reversed (unshadowed k words)) longest
+
+        link_is : get_or links i 0 ≡ unwrap_or (ending (texts_back p) (read at (from - 1))) nothing
+        link_is =
+            let text = ap (λ (t : List (List ℕ)). pattern_at t i) texts_are ∙ read_whole in
+            linked.each i occurs.is_pattern
+            ∙ ap (λ (t : List ℕ). unwrap_or (ending (texts_back p) t) nothing)
+            (ap (λ (t : List ℕ). drop 1 t) text ∙ read_less)
+
+        -- of the patterns that begin there and end before it does, it leads to the best, if there is one
+        pub linked_there : ((get_or links i 0 ≡ nothing) × NoneBeginsAt p haystack (from - 1) at)
+            ⊎ ((get_or links i 0 < nothing) × BeginsBest p haystack (from - 1) at (get_or links i 0))
+        linked_there = by (ending (texts_back p) (read at (from - 1))) refl
+          where
+            after : at ≤ from - 1
+            after = omega (arith, some)
+
+            within : from - 1 ≤ length haystack
+            within = omega (arith, inside)
+
+            by : (o : Option ℕ) → ending (texts_back p) (read at (from - 1)) ≡ o
+                → ((get_or links i 0 ≡ nothing) × NoneBeginsAt p haystack (from - 1) at)
+                ⊎ ((get_or links i 0 < nothing) × BeginsBest p haystack (from - 1) at (get_or links i 0))
+            by None is = inl (
+              link_is ∙ ap (λ (o : Option ℕ). unwrap_or o nothing) is,
+              λ j other. none_ends (texts_back p) some_texts (read at (from - 1)) is j
+                  (ends_unshadowed p.search.query.kind words (read at (from - 1)) j
+                  (begin_ends (from - 1) at after within j other)),
+            )
+            by (Some n) is =
+                let best = best_begins (from - 1) at after within n is in
+                let link : get_or links i 0 ≡ n = link_is ∙ ap (λ (o : Option ℕ). unwrap_or o nothing) is in
+                inr (
+                  omega (arith, link, best.occurs.is_pattern, are.kept.few),
+                  subst (BeginsBest p haystack (from - 1) at) (sym link) best,
+                )
 
     row_of : (text : List ℕ) (row : ℕ)
         → IsAt (texts_back p) p.width p.rows are.recognises text row

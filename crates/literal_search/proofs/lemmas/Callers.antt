@@ -1,8 +1,9 @@
 -- What callers take from this crate beside its contracts and laws: what an automaton was built of, and iterations over
 -- matches. For callers.
-use Rattle.std.proofs.Common.{◌≡◌, ◌↔◌, ◌+◌, ◌<◌, ◌≤◌, ◌++◌, ℕ, Bool, List, [], ◌∷◌, length, map, take, Option, None}
+use Rattle.std.proofs.Common.{◌≡◌, ◌↔◌, ◌+◌, ◌-◌, ◌<◌, ◌≤◌, ◌++◌, ℕ, Bool, List, [], ◌∷◌, length, map, take, Option}
+use Rattle.std.proofs.Common.{None}
 use Rattle.std.proofs.Common.{Some, Ok, Result, append-nil, append_assoc, refl, slice_range, sym, ap, ◌∙◌, arith}
-use Rattle.std.proofs.Common.{get_or, subst, cond, inl, inr, suc, true, zero, ⊎_elim}
+use Rattle.std.proofs.Common.{get_or, subst, cond, inl, inr, nat_le, nat_lt, suc, true, zero, ◌&&◌, ⊎_elim}
 use Rattle.std.specs.Bool.{IsTrue, ⊤}
 use Rattle.std.specs.Borrow.{Bor, MutBor}
 use Rattle.std.specs.Fn.{Called}
@@ -20,10 +21,10 @@ use Rattle.std.proofs.lemmas.Iterator.Consumers.{YieldsList-so_far, YieldsList-t
 use Rattle.std.proofs.lemmas.List.{get_or-map, get_or_default, length-map}
 use denote.Param.Members.{Mut}
 use Rattle.literal_base.specs.declared.packed.MatchKind.{MatchKind}
-use Rattle.literal_base.specs.Greedy.{IsGreedy, IsGreedyIn}
+use Rattle.literal_base.specs.Greedy.{IsGreedy, IsGreedyIn, lies_in_one}
 use Rattle.literal_base.specs.Leftmost.{IsLeftmost, IsLeftmostMatch}
 use Rattle.literal_base.specs.MatchValue.{MatchValue}
-use Rattle.literal_base.specs.Occurs.{NothingOccurs, Occurs, between, pattern_at, rest_from, whole_of}
+use Rattle.literal_base.specs.Occurs.{NoneIsEmpty, NothingOccurs, Occurs, between, pattern_at, rest_from, whole_of}
 use Rattle.literal_base.proofs.lemmas.Callers.{GivesList}
 use Rattle.literal_search.specs.SearchValue.{BuildsSearch, SearchValue, GivesAll, GivesNext, NeedTooManyStates}
 use Rattle.literal_search.specs.SearchValue.{search_by, MayRefuseList, NeedTooManyReversed, RefusesSearch, longest_of}
@@ -32,6 +33,9 @@ use Rattle.literal_search.specs.declared.BuildError.{BuildError}
 use Rattle.literal_search.specs.declared.BuildError.TheVariants.{EmptyPattern, OutOfMemory, TooManyPatterns}
 use Rattle.literal_search.specs.declared.BuildError.TheVariants.{TooManyStates}
 use Rattle.literal_search.specs.Automaton.{AreAtEnd, EndsText, IsStateAfter}
+use Rattle.literal_base.specs.Counts.{Counts}
+use Rattle.literal_search.specs.LookUps.{ScansRest, no_look_ups}
+use Rattle.literal_search.specs.SearchValue.{ScansListAtMost, most_scanned}
 use Rattle.literal_search.specs.MatchesValue.{GivesMatch, GivesThen, MatchesValue}
 use Rattle.literal_search.specs.Overlapping.{BuildsOverlapping, OverlappingValue, AreAllThat, ComesBefore, IsOccurrence}
 use Rattle.literal_search.specs.Overlapping.{IsOverlapping}
@@ -40,11 +44,16 @@ use Rattle.literal_search.specs.Replaced.{IsReplaced, IsWritten, WritesMatch, Wr
 use Rattle.literal_search.proofs.lemmas.Automaton.{all_in_haystack, in_haystack, in_part}
 use Rattle.literal_search.proofs.lemmas.Rows.{none_few, one_class}
 use Rattle.literal_search.proofs.lemmas.Walk.{slice_push}
-use Rattle.std.proofs.lemmas.Bool.{cases_Bool}
+use Rattle.std.proofs.lemmas.Bool.{and_from, cases_Bool, cases_lt, le-leb, lt-ltb, or_left, or_right}
 use Rattle.std.proofs.lemmas.List.Elements.{All-filter, filter_passes}
 use Rattle.std.proofs.lemmas.List.Kept.{AllPairs-filter}
 use Rattle.literal_base.specs.declared.search.Span.{Span}
 use Rattle.literal_search.proofs.lemmas.Longest.{longest_is}
+use Rattle.literal_search.specs.WholeWords.{AreWholeWords, GivesWholeWord, IsFirstAlone, OccursAlone}
+use Rattle.literal_search.specs.WholeWords.{WholeWordMatchesValue, WholeWordsValue}
+pub use Rattle.literal_search.proofs.lemmas.Iterations.{scanned_on}
+pub use Rattle.literal_search.proofs.lemmas.Prepared.{length_part}
+pub use Rattle.literal_search.proofs.lemmas.Pushed.{counts_pushed, match_at_end, pushed}
 
 -- whichever iterator the given value becomes, that gives references to these byte strings and ends
 pub record GivesBytes {U T : Type 0} (becomes : U → T → Type 0) (steps : T → Option (Bor (List ℕ)) → T → Type 0)
@@ -155,12 +164,31 @@ greedy_from_yields m all n o run nothing =
     subst (IsGreedyIn m.search.query m.search.ignore_case m.haystack (between m.at m.span.end)) (append-nil all)
     (greedy_after m all [] n run nothing.leftmost)
 
--- an iteration that began at the start of a haystack
-abbrev pub matches_of : SearchValue → List ℕ → MatchesValue
-matches_of searched haystack =
-    record { search = searched; haystack = haystack; span = whole_of haystack; at = 0; known = 0 }
+-- an iteration that has just begun, in a span, or in a whole haystack
+abbrev pub matches_in : SearchValue → List ℕ → Span → MatchesValue
+matches_in searched haystack span = record {
+  search = searched;
+  haystack = haystack;
+  span = span;
+  at = span.start;
+  look_ups = no_look_ups;
+}
 
--- the same of such a one
+abbrev pub matches_of : SearchValue → List ℕ → MatchesValue
+matches_of searched haystack = matches_in searched haystack (whole_of haystack)
+
+-- what an iteration over a whole haystack scans
+pub scans_whole : (patterns : List (List ℕ)) (haystack : List ℕ) (old new : Counts)
+    → ScansRest (longest_of patterns) (whole_of haystack) no_look_ups old new
+    → ScansListAtMost patterns (length haystack) old new
+scans_whole patterns haystack old new rest =
+    let all : length haystack - 0 ≡ length haystack = omega arith in record {
+      others = rest.others;
+      most = subst (λ n. new.scanned ≤ old.scanned + most_scanned (longest_of patterns) n) all
+          (omega (arith, rest.most));
+    }
+
+-- the greedy list by an iteration that began at the start of a haystack
 pub greedy_from_matches : (searched : SearchValue) (haystack : List ℕ) (m : MatchesValue) (all : List MatchValue)
     (n o : MatchesValue) → m ≡ matches_of searched haystack → Yields GivesMatch m all n
     → GivesMatch n None o → IsGreedy searched.query searched.ignore_case haystack 0 all
@@ -362,16 +390,10 @@ pub some_if_occurs : (patterns : List (List ℕ)) (ignore_case : Bool) (haystack
 some_if_occurs [] ignore_case haystack span not = absurd (not (λ i at occurs. omega (arith, occurs.is_pattern)))
 some_if_occurs (bytes ∷ more) ignore_case haystack span not = omega arith
 
--- so is one that is longer than so many bytes
-some_if_longer : (n : ℕ) (patterns : List (List ℕ)) → n < longest_of patterns → 0 < length patterns
-some_if_longer n [] longer = absurd (omega arith)
-some_if_longer n (bytes ∷ more) longer = omega arith
-
 -- memory for a list is refused only where there is a pattern
-pub some_if_refused : (search : SearchValue) (haystack : List ℕ) (span : Span) → MayRefuseList search haystack span
-    → 0 < length search.query.patterns
-some_if_refused search haystack span (inl occurs) = some_if_occurs _ _ _ _ occurs
-some_if_refused search haystack span (inr long) = some_if_longer _ search.query.patterns long
+pub some_if_refused : (searched : SearchValue) (haystack : List ℕ) (span : Span)
+    → MayRefuseList searched haystack span → 0 < length searched.query.patterns
+some_if_refused searched haystack span occurs = some_if_occurs _ _ haystack span occurs
 
 -- no pattern is longer than the longest
 pub within_longest : (patterns : List (List ℕ)) (i : ℕ) → length (pattern_at patterns i) ≤ longest_of patterns
@@ -399,3 +421,78 @@ passing test patterns ignore_case haystack span all overlapping = record {
   ordered = AllPairs-filter ComesBefore test all overlapping.ordered;
   every = λ found occurs passes. among_passing test all found (overlapping.every found occurs) passes;
 }
+
+-- what an iteration over whole words gave, followed by those of what is left, are those from where it was
+pub words_after : (m : WholeWordMatchesValue) (all more : List MatchValue) (n : WholeWordMatchesValue)
+    → Yields GivesWholeWord m all n
+    → AreWholeWords n.words n.haystack (between n.at n.span.end) more
+    → AreWholeWords m.words m.haystack (between m.at m.span.end) (all ++ more)
+words_after m [] more n stays are = grind arith
+words_after m (found ∷ rest) more n run are = grind (arith, words_after run.0 rest more n run.2 are)
+
+-- so what it gives up to its end are all of them
+pub words_from_yields : (m : WholeWordMatchesValue) (all : List MatchValue) (n o : WholeWordMatchesValue)
+    → Yields GivesWholeWord m all n → GivesWholeWord n None o
+    → AreWholeWords m.words m.haystack (between m.at m.span.end) all
+words_from_yields m all n o run nothing =
+    subst (AreWholeWords m.words m.haystack (between m.at m.span.end)) (append-nil all)
+    (words_after m all [] n run nothing.leftmost)
+
+-- what a loop over the whole words of a haystack carries: the iteration is over them, and goes on from an offset
+pub record AreWordMatchesFrom (words : WholeWordsValue) (haystack : List ℕ) (at : ℕ) (it : WholeWordMatchesValue)
+    : Type 0 where
+  pub words_is : it.words ≡ words
+  pub haystack_is : it.haystack ≡ haystack
+  pub end_is : it.span.end ≡ length haystack
+  pub at_is : it.at ≡ at
+  pub within : at ≤ length haystack
+
+module _ {words : WholeWordsValue} {haystack : List ℕ} {at : ℕ} {it next : WholeWordMatchesValue}
+    (from : AreWordMatchesFrom words haystack at it) where
+  -- a step gives the leftmost whole word from there on
+  pub word_from : (answer : Option MatchValue) → GivesWholeWord it answer next
+      → IsFirstAlone words haystack (rest_from haystack at) answer
+  word_from answer step = grind arith
+
+  -- and the loop goes on at the word's end
+  pub words_go_on : {found : MatchValue} {to : ℕ} → to ≡ found.end → GivesWholeWord it (Some found) next
+      → AreWordMatchesFrom words haystack to next
+  words_go_on {found} end step = grind (arith, word_from)
+
+-- each whole word of a span shares an offset with one of those that do not overlap
+pub words_meet_all : (words : WholeWordsValue) (haystack : List ℕ) (from end : ℕ) (all : List MatchValue) (i at : ℕ)
+    → NoneIsEmpty words.search.query.patterns → AreWholeWords words haystack (between from end) all
+    → OccursAlone words.search.query.patterns words.search.ignore_case words.word_bytes haystack (between from end) i at
+    → (place : ℕ) × at ≤ place × place < at + length (pattern_at words.search.query.patterns i)
+    × (lies_in_one all place ≡ true)
+words_meet_all words haystack from end [] i at some are o = absurd (are i at o)
+words_meet_all words haystack from end (found ∷ more) i at some are o =
+    let long : 0 < length (pattern_at words.search.query.patterns i) = some i [] o.occurs.is_pattern in
+    elim (cases_lt at found.start) [
+      | inl before ↦ absurd (are.0.earliest i at before o)
+      | inr after ↦
+          elim (cases_lt at found.end) [
+            | inl inside ↦ (
+              at,
+              omega arith,
+              omega arith,
+              or_left (nat_le found.start at && nat_lt at found.end) (lies_in_one more at)
+                  (and_from _ _ (le-leb found.start at after) (lt-ltb at found.end inside)),
+            )
+            | inr past ↦
+                let rest = words_meet_all words haystack found.end end more i at some are.1 (record {
+                  occurs = record {
+                    is_pattern = o.occurs.is_pattern;
+                    after_start = past;
+                    before_end = o.occurs.before_end;
+                    same = o.occurs.same;
+                  };
+                  alone = o.alone;
+                }) in (
+                  rest.0,
+                  rest.1,
+                  rest.2,
+                  or_right (nat_le found.start rest.0 && nat_lt rest.0 found.end) (lies_in_one more rest.0) rest.3,
+                )
+          ]
+    ]

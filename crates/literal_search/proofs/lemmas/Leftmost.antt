@@ -16,7 +16,7 @@ use Rattle.literal_search.specs.Inside.Leftmost.{AreLanes, AreMarksAfter, AreSte
 use Rattle.literal_fingerprints.specs.CandidateScans.{ahead_by_pair}
 use Rattle.literal_fingerprints.specs.declared.candidates.CandidateScan.{CandidateScan}
 use Rattle.literal_fingerprints.specs.declared.pair.RarePair.{RarePair}
-use Rattle.literal_search.specs.Inside.Leftmost.{IsLimit, ahead_by}
+use Rattle.literal_search.specs.Inside.Leftmost.{IsLimit, ahead_by, owed_by}
 use Rattle.literal_search.specs.Inside.Leftmost.{IsStep, NoneAfter}
 use Rattle.literal_search.specs.Inside.Leftmost.{ReadsFor}
 use Rattle.literal_search.specs.Prepared.{AreBackTables, BackTables}
@@ -35,6 +35,11 @@ pair_few (Some pair) = omega arith
 pub ahead_few : (scan : Option CandidateScan) → ahead_by scan ≤ 37
 ahead_few None = omega arith
 ahead_few (Some scan) = pair_few scan.pair
+
+-- nor does it look up many bytes more than three times those that it passes over
+pub owed_few : (scan : Option CandidateScan) → owed_by scan ≤ 19
+owed_few None = omega arith
+owed_few (Some scan) = omega arith
 
 -- a walk that has read nothing
 pub lane_begins : (p : BackTables) → AreBackTables p → (haystack : List ℕ) → ((i : ℕ) → get_or haystack i 0 < 256)

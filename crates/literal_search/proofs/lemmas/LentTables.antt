@@ -80,7 +80,7 @@ lent_table p search are = grind arith
 
 -- where the classes end, and how many lengths there are, by the parts of an array
 pub parts_end : {version : ℕ} (f : Header) (numbers : List ℕ) → f.numbers.now ≡ numbers → IsHeader version f
-    → (6 + length f.lengths.now + length f.rows.now ≡ classes_end numbers)
+    → (7 + length f.lengths.now + length f.rows.now ≡ classes_end numbers)
     × (length f.lengths.now ≡ get_or numbers 3 0)
 parts_end {version} f numbers same header = grind (arith, common_steps, length_part)
 
@@ -197,13 +197,13 @@ module _ (t : Tables) (tables : AreTables t) (prints : List ℕ) (prints_long : 
     (pass : 0 < past_skipped prints → IsScanFor (scan_by prints) t.ignore_case t.patterns)
   where
     abbrev pub all_of : List ℕ
-    all_of = numbers_for OVERLAPPING_VERSION t.classes t.width t.patterns t.rows t.starts (t.ends ++ prints)
+    all_of = numbers_for OVERLAPPING_VERSION 0 t.classes t.width t.patterns t.rows t.starts (t.ends ++ prints)
 
     long : length t.starts ≡ length t.patterns + 1
     long = tables.lists.long
 
-    size : length all_of ≡ 6 + length t.patterns + length t.rows + 256 + length t.starts + length (t.ends ++ prints)
-    size = numbers_long OVERLAPPING_VERSION t.classes t.width t.patterns t.rows t.starts (t.ends ++ prints)
+    size : length all_of ≡ 7 + length t.patterns + length t.rows + 256 + length t.starts + length (t.ends ++ prints)
+    size = numbers_long OVERLAPPING_VERSION 0 t.classes t.width t.patterns t.rows t.starts (t.ends ++ prints)
 
     ends_at_is : ends_at all_of ≡ classes_end all_of + length t.starts
     ends_at_is = omega (arith, long)
@@ -230,7 +230,7 @@ module _ (t : Tables) (tables : AreTables t) (prints : List ℕ) (prints_long : 
         sym (take_all (length (t.ends ++ prints)) (drop (classes_end all_of + length t.starts) all_of)
         (omega (arith, length-drop (classes_end all_of + length t.starts) all_of, size)))
         ∙ (ap (λ n. take n (drop (classes_end all_of + length t.starts) all_of)) (omega arith)
-        ∙ ends_written OVERLAPPING_VERSION t.classes t.width t.patterns t.rows t.starts (t.ends ++ prints))
+        ∙ ends_written OVERLAPPING_VERSION 0 t.classes t.width t.patterns t.rows t.starts (t.ends ++ prints))
 
     all_is : all_of ≡ start ++ (t.ends ++ prints)
     all_is = sym (take-append-drop (classes_end all_of + length t.starts) all_of) ∙ ap (λ l. start ++ l) rest_is
@@ -257,12 +257,12 @@ module _ (t : Tables) (tables : AreTables t) (prints : List ℕ) (prints_long : 
       prepared = record {
         whole = record {
           lists = grind (arith, size, whole);
-          check = check_written OVERLAPPING_VERSION t.classes t.width t.patterns t.rows t.starts (t.ends ++ prints)
+          check = check_written OVERLAPPING_VERSION 0 t.classes t.width t.patterns t.rows t.starts (t.ends ++ prints)
               (overlapping_len all_of) whole;
         };
         longest = refl;
         tables = subst AreTables tables_are tables;
-        lengths = lengths_written OVERLAPPING_VERSION t.classes t.width t.patterns t.rows t.starts (t.ends ++ prints);
+        lengths = lengths_written OVERLAPPING_VERSION 0 t.classes t.width t.patterns t.rows t.starts (t.ends ++ prints);
         prints = grind (arith, prints_are);
       };
       long = sym whole;
@@ -274,7 +274,7 @@ module _ {search : OverlappingValue} {numbers : List ℕ} (listed : AreListed se
   inside = tables_in search numbers
 
   -- so many numbers these are
-  listed_long : length numbers ≡ 6 + length search.patterns + length inside.rows + 256 + length inside.starts
+  listed_long : length numbers ≡ 7 + length search.patterns + length inside.rows + 256 + length inside.starts
       + length inside.ends + SCAN_LEN
   listed_long = grind (arith, length-map, length_part, long, whole)
 

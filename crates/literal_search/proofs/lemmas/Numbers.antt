@@ -22,7 +22,7 @@ pub part_at : (numbers prefix part back : List ℕ) (from to : ℕ) → numbers 
 part_at numbers prefix part back from to is from_is to_is =
     grind (arith, common_steps, drop-append_seam, take-append_seam)
 
-module _ (version : ℕ) (classes : List ℕ) (width : ℕ) (patterns : List (List ℕ)) (rows starts ends : List ℕ)
+module _ (version kind : ℕ) (classes : List ℕ) (width : ℕ) (patterns : List (List ℕ)) (rows starts ends : List ℕ)
   where
     abbrev last : List ℕ
     last = packed_classes classes
@@ -31,14 +31,16 @@ module _ (version : ℕ) (classes : List ℕ) (width : ℕ) (patterns : List (Li
     lengths = map (λ (bytes : List ℕ). length bytes) patterns
 
     abbrev pub numbers : List ℕ
-    numbers = numbers_for version classes width patterns rows starts ends
+    numbers = numbers_for version kind classes width patterns rows starts ends
 
     abbrev body : List ℕ
     body =
-        width ∷ length patterns ∷ length rows ∷ longest_of patterns ∷ lengths ++ (rows ++ last) ++ starts ++ ends
+        width ∷ length patterns ∷ length rows ∷ longest_of patterns ∷ kind ∷ lengths ++ (rows ++ last)
+        ++ starts ++ ends
 
     abbrev head : List ℕ
-    head = version ∷ check_of body ∷ width ∷ length patterns ∷ length rows ∷ longest_of patterns ∷ []
+    head =
+        version ∷ check_of body ∷ width ∷ length patterns ∷ length rows ∷ longest_of patterns ∷ kind ∷ []
 
     many : length lengths ≡ length patterns
     many = length-map patterns (λ (bytes : List ℕ). length bytes)
@@ -48,7 +50,7 @@ module _ (version : ℕ) (classes : List ℕ) (width : ℕ) (patterns : List (Li
 
     -- how many they are
     pub numbers_long : length numbers
-        ≡ 6 + length patterns + length rows + 256 + length starts + length ends
+        ≡ 7 + length patterns + length rows + 256 + length starts + length ends
     numbers_long = grind (arith, length-append, many, table_long)
 
     -- what stands behind the lengths
@@ -65,8 +67,8 @@ module _ (version : ℕ) (classes : List ℕ) (width : ℕ) (patterns : List (Li
 
     pub rows_written : rows_in numbers ≡ rows
     rows_written =
-        part_at numbers (head ++ lengths) rows (last ++ (starts ++ ends)) (6 + length patterns)
-        (6 + length patterns + length rows)
+        part_at numbers (head ++ lengths) rows (last ++ (starts ++ ends)) (7 + length patterns)
+        (7 + length patterns + length rows)
         (ap (λ l. head ++ l) (behind_rows ∙ append_assoc lengths rows (last ++ (starts ++ ends))))
         (omega (arith, length-append head lengths, many)) (omega arith)
 

@@ -1,4 +1,4 @@
--- A text whose matches are rewritten by calls that write what a function of the match gives.
+-- A text whose matches are rewritten by calls that write what a function of the match gives. For callers.
 use Rattle.std.proofs.Common.{◌≡◌, ℕ, ◌<◌, ◌≤◌, ◌++◌, [], ◌∷◌, ◌∙◌, Err, IfErr, List, Ok, OnOk, Option, Result, ap}
 use Rattle.std.proofs.Common.{append-nil}
 use Rattle.std.proofs.Common.{append_assoc, arith, length, length-append, slice_range, subst, sym}

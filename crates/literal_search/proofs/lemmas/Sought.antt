@@ -1,7 +1,7 @@
 -- What a stream is searched for: matches, and whole words.
 use Rattle.std.proofs.lemmas.Grind.{common_steps}
 use Rattle.std.proofs.Common.{◌≡◌, ℕ, ◌+◌, ◌-◌, ◌≤◌, ◌<◌, ◌++◌, ◌∷◌, ◌∙◌, [], Bool, List, None, Option, Some, ap, arith}
-use Rattle.std.proofs.Common.{append-nil, inl, inr, length, length-append, subst, sym}
+use Rattle.std.proofs.Common.{append-nil, append_assoc, inl, inr, length, length-append, subst, sym, take}
 use Rattle.std.proofs.lemmas.Bool.{cases_lt}
 use Rattle.std.proofs.lemmas.List.{drop-append-le, length-drop, take-append-le}
 use Rattle.std.proofs.Math.Seq.{drop-append-add}
@@ -14,14 +14,17 @@ use Rattle.literal_base.specs.Query.{Query}
 use Rattle.literal_search.specs.SearchValue.{longest_of}
 use Rattle.literal_search.specs.Stream.{AnswersSoFar, IsKnownBy}
 use Rattle.literal_search.specs.WholeWords.{IsFirstAlone, OccursAlone, WholeWordsValue, is_word_at, is_word_before}
-use Rattle.literal_search.specs.Inside.Stream.{Answers, AnswersAhead, AreMatches, Begins, IsFirst, TellsOf, margin_of}
+use Rattle.literal_search.specs.Inside.Stream.{Answers, AnswersAhead, AreHeldFrom, AreMatches, Begins, IsFirst}
+use Rattle.literal_search.specs.Inside.Stream.{IsSearchIn, IsThrough, IsWindow, TellsOf, block, held, margin_of}
 use Rattle.literal_search.specs.Inside.Stream.{reach_of, search_of, shifted, told_later}
+use Rattle.literal_search.specs.declared.sought.BlockSearch.{BlockSearch}
 use Rattle.literal_search.specs.declared.sought.Sought.{Sought}
 use Rattle.literal_search.specs.declared.sought.Sought.TheVariants.{Any, Words}
 use Rattle.literal_search.specs.declared.stream.SoFar.{SoFar}
 use Rattle.literal_search.specs.declared.stream.SoFar.TheVariants.{Found, NoneBefore}
+use Rattle.literal_search.specs.declared.window.Window.{Window}
 use Rattle.literal_search.proofs.lemmas.Longest.{longest_is}
-use Rattle.literal_search.proofs.lemmas.Streams.{GoesFrom, occurs_prefix}
+use Rattle.literal_search.proofs.lemmas.Streams.{GoesFrom, block_is, gone_long, occurs_prefix}
 
 -- what is searched for goes from an offset on
 goes_later : (s : Sought) (text : List ℕ) (from to i p : ℕ) → to ≤ p → Begins s text from i p → Begins s text to i p
@@ -183,65 +186,130 @@ begins_ahead (Words words) before text from near i p o =
       alone = grind (arith, before_behind, word_behind);
     }
 
-module _ (s : Sought) (before text : List ℕ) (from : ℕ) (near : length before ≡ (length before + from) - margin_of s)
+-- what begins ahead does so whatever came before
+module _ (s : Sought) (gone before ahead : List ℕ) (from : ℕ)
+    (near_gone : length gone ≡ (length gone + from) - margin_of s)
+    (near : length before ≡ (length before + from) - margin_of s)
   where
-    -- by any offset
-    ahead_at : (i p : ℕ) → Begins s (before ++ text) (length before + from) i p
-        → Begins s text from i (p - length before)
-    ahead_at i p o =
-        let after = goes_after s (before ++ text) (length before + from) i p o in
+    moved : (i p : ℕ) → Begins s (gone ++ ahead) (length gone + from) i (length gone + p)
+        → Begins s (before ++ ahead) (length before + from) i (length before + p)
+    moved i p o = begins_behind s before ahead from near i p (begins_ahead s gone ahead from near_gone i p o)
+
+    -- and back, by any offset
+    moved_back : (i p : ℕ) → Begins s (before ++ ahead) (length before + from) i p
+        → Begins s (gone ++ ahead) (length gone + from) i (length gone + (p - length before))
+    moved_back i p o =
+        let after = goes_after s (before ++ ahead) (length before + from) i p o in
         let is : p ≡ length before + (p - length before) = omega (arith, after) in
-        grind (arith, begins_ahead)
+        begins_behind s gone ahead from near_gone i (p - length before)
+        (begins_ahead s before ahead from near i (p - length before)
+        (subst (λ (n : ℕ). Begins s (before ++ ahead) (length before + from) i n) is o))
 
-    -- where nothing begins ahead before an offset, nothing does in the whole text
-    none_behind : (offset : ℕ) → ((i p : ℕ) → Begins s text from i p → offset ≤ p) → (i p : ℕ)
-        → Begins s (before ++ text) (length before + from) i p → offset + length before ≤ p
-    none_behind offset none i p o = grind (arith, ahead_at, goes_after)
+    module _ (base : ℕ) (sum : base + length gone ≡ length before) where
+      -- where nothing begins before an offset, nothing does whatever came before
+      none_moved : (offset : ℕ)
+          → ((i p : ℕ) → Begins s (gone ++ ahead) (length gone + from) i p → offset ≤ p) → (i p : ℕ)
+          → Begins s (before ++ ahead) (length before + from) i p → offset + base ≤ p
+      none_moved offset none i p o =
+          let after = goes_after s (before ++ ahead) (length before + from) i p o in
+          omega (arith, none i (length gone + (p - length before)) (moved_back i p o), after, sum)
 
--- the leftmost match ahead is that of the whole text from there on
-first_behind : (s : Sought) (before text : List ℕ) (from : ℕ)
-    → length before ≡ (length before + from) - margin_of s → (found : MatchValue) → IsFirst s text from (Some found)
-    → IsFirst s (before ++ text) (length before + from) (Some (shifted (length before) found))
-first_behind (Any search) before text from near found first =
-    let start : length before + found.start ≡ found.start + length before = omega arith in
+      -- a match is the same so many bytes later
+      match_moved : (i p : ℕ) → Begins s (gone ++ ahead) (length gone + from) i p
+          → Begins s (before ++ ahead) (length before + from) i (p + base)
+      match_moved i p o =
+          let after = goes_after s (gone ++ ahead) (length gone + from) i p o in
+          let here : p ≡ length gone + (p - length gone) = omega (arith, after) in
+          let there : length before + (p - length gone) ≡ p + base = omega (arith, after, sum) in
+          subst (λ (n : ℕ). Begins s (before ++ ahead) (length before + from) i n) there
+          (moved i (p - length gone)
+          (subst (λ (n : ℕ). Begins s (gone ++ ahead) (length gone + from) i n) here o))
+
+      match_before : (i p : ℕ) → length gone + from ≤ p
+          → Begins s (before ++ ahead) (length before + from) i (p + base)
+          → Begins s (gone ++ ahead) (length gone + from) i p
+      match_before i p after o =
+          let here : length gone + ((p + base) - length before) ≡ p = omega (arith, after, sum) in
+          subst (λ (n : ℕ). Begins s (gone ++ ahead) (length gone + from) i n) here (moved_back i (p + base) o)
+
+-- the leftmost match ahead is the same whatever came before
+first_moved : (s : Sought) (gone before ahead : List ℕ) (from : ℕ)
+    → length gone ≡ (length gone + from) - margin_of s → length before ≡ (length before + from) - margin_of s
+    → (base : ℕ) → base + length gone ≡ length before → (found : MatchValue)
+    → IsFirst s (gone ++ ahead) (length gone + from) (Some found)
+    → IsFirst s (before ++ ahead) (length before + from) (Some (shifted base found))
+first_moved (Any search) gone before ahead from near_gone near base sum found first =
+    let s = Any search in
+    let after = first.occurs.after_start in
     record {
-      occurs = subst (λ (n : ℕ). Begins (Any search) (before ++ text) (length before + from) found.pattern n) start
-          (begins_behind (Any search) before text from near found.pattern found.start first.occurs);
+      occurs = match_moved s gone before ahead from near_gone near base sum found.pattern found.start first.occurs;
       whole = omega (arith, first.whole);
       earliest = λ i p earlier o.
-          let after = o.after_start in
-          first.earliest i (p - length before) (omega (arith, earlier, after))
-          (ahead_at (Any search) before text from near i p o);
-      best = λ i better o. first.best i better (begins_ahead (Any search) before text from near i found.start
-          (subst (λ (n : ℕ). Begins (Any search) (before ++ text) (length before + from) i n) (sym start) o));
+          let later = o.after_start in
+          first.earliest i (length gone + (p - length before)) (omega (arith, earlier, later, sum))
+          (moved_back s gone before ahead from near_gone near i p o);
+      best = λ i better o.
+          first.best i better (match_before s gone before ahead from near_gone near base sum i found.start after o);
     }
-first_behind (Words words) before text from near found first =
-    let start : length before + found.start ≡ found.start + length before = omega arith in
+first_moved (Words words) gone before ahead from near_gone near base sum found first =
+    let s = Words words in
+    let after = first.occurs.occurs.after_start in
     record {
-      occurs = subst (λ (n : ℕ). Begins (Words words) (before ++ text) (length before + from) found.pattern n) start
-          (begins_behind (Words words) before text from near found.pattern found.start first.occurs);
+      occurs = match_moved s gone before ahead from near_gone near base sum found.pattern found.start first.occurs;
       whole = omega (arith, first.whole);
       earliest = λ i p earlier o.
-          let after = o.occurs.after_start in
-          first.earliest i (p - length before) (omega (arith, earlier, after))
-          (ahead_at (Words words) before text from near i p o);
-      best = λ i better o. first.best i better (begins_ahead (Words words) before text from near i found.start
-          (subst (λ (n : ℕ). Begins (Words words) (before ++ text) (length before + from) i n) (sym start) o));
+          let later = o.occurs.after_start in
+          first.earliest i (length gone + (p - length before)) (omega (arith, earlier, later, sum))
+          (moved_back s gone before ahead from near_gone near i p o);
+      best = λ i better o.
+          first.best i better (match_before s gone before ahead from near_gone near base sum i found.start after o);
     }
 
--- an answer for the held bytes is one for the bytes ahead, whatever came before
-pub answers_behind : (s : Sought) (base at : ℕ) (ahead : List ℕ) (answer : SoFar) → base ≡ at - margin_of s
-    → base ≤ at → Answers s ahead (at - base) answer → AnswersAhead s at ahead (told_later base answer)
-answers_behind s base at ahead (Found found) begin later first = λ before len.
-    let is : length before ≡ base = len ∙ sym begin in
-    let at_is : length before + (at - base) ≡ at = omega (arith, is, later) in
-    grind (arith, first_behind)
-answers_behind s base at ahead (NoneBefore offset) begin later none = λ before len i p o.
-    let is : length before ≡ base = len ∙ sym begin in
-    let at_is : length before + (at - base) ≡ at = omega (arith, is, later) in
-    subst (λ (n : ℕ). offset + n ≤ p) is
-    (none_behind s before ahead (at - base) (len ∙ ap (λ n. n - margin_of s) (sym at_is)) offset none i p
-    (subst (λ (n : ℕ). Begins s (before ++ ahead) n i p) (sym at_is) o))
+-- an answer for a text is one for the bytes ahead in it, whatever came before
+answers_ahead : (s : Sought) (base at : ℕ) (gone ahead : List ℕ) (answer : SoFar)
+    → base + length gone ≡ at - margin_of s → base + length gone ≤ at → Answers s (gone ++ ahead) (at - base) answer
+    → AnswersAhead s at ahead (told_later base answer)
+answers_ahead s base at gone ahead (Found found) begin later first = λ before len.
+    let from = at - (base + length gone) in
+    let sum : base + length gone ≡ length before = begin ∙ sym len in
+    let at_is : length before + from ≡ at = omega (arith, sum, later) in
+    let gone_is : at - base ≡ length gone + from = omega (arith, later) in
+    subst (λ (n : ℕ). IsFirst s (before ++ ahead) n (Some (shifted base found))) at_is
+    (first_moved s gone before ahead from (omega (arith, begin, later)) (omega (arith, begin, later, sum)) base sum
+    found (subst (λ (n : ℕ). IsFirst s (gone ++ ahead) n (Some found)) gone_is first))
+answers_ahead s base at gone ahead (NoneBefore offset) begin later none = λ before len i p o.
+    let from = at - (base + length gone) in
+    let sum : base + length gone ≡ length before = begin ∙ sym len in
+    let at_is : length before + from ≡ at = omega (arith, sum, later) in
+    let gone_is : at - base ≡ length gone + from = omega (arith, later) in
+    none_moved s gone before ahead from (omega (arith, begin, later)) (omega (arith, begin, later, sum)) base sum
+    offset (λ i p o. none i p (subst (λ (n : ℕ). Begins s (gone ++ ahead) n i p) (sym gone_is) o)) i p
+    (subst (λ (n : ℕ). Begins s (before ++ ahead) n i p) (sym at_is) o)
+
+-- an answer for the block of a window, and what follows, is one for the bytes ahead
+pub answers_in_block : (s : Sought) (w : Window) (at base : ℕ) (bytes more : List ℕ) (answer : SoFar) → IsWindow w
+    → AreHeldFrom (margin_of s) at w → base ≡ w.offset - w.passed → bytes ≡ block w
+    → Answers s (bytes ++ more) (at - base) answer → AnswersAhead s at (held w ++ more) (told_later base answer)
+answers_in_block s w at base bytes more answer window from base_is bytes_are answers =
+    let gone = take w.passed (block w) in
+    let len : length gone ≡ w.passed = gone_long w window in
+    let text : bytes ++ more ≡ gone ++ (held w ++ more) =
+    ap (λ l. l ++ more) (bytes_are ∙ block_is w window) ∙ append_assoc gone (held w) more in
+    let begin = from.begin in
+    let begins = window.begins in
+    let base_on : base + length gone ≡ at - margin_of s = omega (arith, base_is, len, begin, begins) in
+    answers_ahead s base at gone (held w ++ more) answer base_on (omega (arith, base_on))
+    (subst (λ (l : List ℕ). Answers s l (at - base) answer) text answers)
+
+-- a search in a window goes on if its block stays
+pub search_stays : (s : Sought) (w v : Window) (at : ℕ) (b : BlockSearch) → block v ≡ block w
+    → v.offset - v.passed ≡ w.offset - w.passed → IsSearchIn s w at b → IsSearchIn s v at b
+search_stays s w v at b same begins is = record {
+  tables = is.tables;
+  through = λ begun.
+      subst (λ (n : ℕ). IsThrough s (block v) (at - n) b) (sym begins)
+      (subst (λ (l : List ℕ). IsThrough s l (at - (w.offset - w.passed)) b) (sym same) (is.through begun));
+}
 
 -- what is known of the leftmost answer for a text holds whatever follows
 pub known_follows : (s : Sought) (text more : List ℕ) (from reach : ℕ) (leftmost : Option MatchValue) (answer : SoFar)

@@ -2,7 +2,7 @@
 use Rattle.std.proofs.lemmas.Grind.{common_steps}
 use Rattle.std.proofs.Common.{◌≡◌, ℕ, ◌+◌, ◌-◌, ◌≤◌, ◌<◌, ◌^◌, ◌++◌, [], ◌∷◌, List, Ok, Err, map, Option, None}
 use Rattle.std.proofs.Common.{Some, length, take, drop, ap, subst, sym, arith, append_assoc, append-nil}
-use Rattle.std.proofs.Common.{length-append, Bool, IfSome, true, false, ◌∙◌}
+use Rattle.std.proofs.Common.{length-append, Bool, IfSome, true, false, ◌∙◌, refl}
 use Rattle.std.proofs.KnownBytes.{Consumes-trans}
 use Rattle.std.proofs.Math.Seq.{take-append-add}
 use Rattle.std.proofs.lemmas.Option.{none-some}
@@ -20,10 +20,11 @@ use Rattle.literal_base.specs.MatchValue.{MatchValue}
 use Rattle.literal_base.specs.Occurs.{Occurs, rest_from, between, pattern_at}
 use Rattle.literal_base.specs.Query.{Query}
 use Rattle.literal_search.specs.SearchValue.{SearchValue, longest_of}
-use Rattle.literal_search.specs.Stream.{EndsFailed, EndsWhole, GivesAhead, GoesBehind, IsFirstAhead, PassesOver}
+use Rattle.literal_search.specs.Stream.{EndsFailed, EndsWhole, GivesAhead, GoesBehind, IsFirstAhead, KnowsEnd}
+use Rattle.literal_search.specs.Stream.{PassesOver}
 use Rattle.literal_search.specs.Stream.{ReadsOn, StreamValue, known, stream_over}
 use Rattle.literal_search.specs.Inside.Stream.{GoesThrough, HasGoneOn, HasPassed, HasReadOn, IsOpen, IsSoundReading}
-use Rattle.literal_search.specs.Inside.Stream.{IsWindow, held, stream_value}
+use Rattle.literal_search.specs.Inside.Stream.{IsWindow, block, held, stream_value}
 use Rattle.literal_search.specs.declared.reading.Reading.{Reading}
 use Rattle.literal_search.specs.declared.window.Window.{Window}
 pub use Rattle.literal_fingerprints.proofs.lemmas.Skipped.{part_behind}
@@ -73,6 +74,30 @@ pub record GoesFrom (IsFirst : List ℕ → ℕ → Option MatchValue → Type 0
 pub held_fits : (w : Window) → IsWindow w → w.offset + length (held w) < 2 ^ 64
 held_fits w sound = omega (arith, length_part w.bytes.items w.start w.end sound.ordered sound.inside)
 
+-- the block of a window is what was passed in it, and what is held
+block_behind : (w : Window) → IsWindow w → drop w.passed (block w) ≡ held w
+block_behind w sound =
+    let start : (w.start - w.passed) + w.passed ≡ w.start = omega (arith, sound.passed) in
+    sym (part_behind w.bytes.items (w.start - w.passed) w.end w.passed (omega (arith, sound.passed, sound.ordered)))
+    ∙ ap (λ n. slice_range w.bytes.items n w.end) start
+
+pub block_is : (w : Window) → IsWindow w → block w ≡ take w.passed (block w) ++ held w
+block_is w sound =
+    sym (take-append-drop w.passed (block w)) ∙ ap (λ l. take w.passed (block w) ++ l) (block_behind w sound)
+
+pub block_long : (w : Window) → IsWindow w → length (block w) ≡ w.passed + length (held w)
+block_long w sound =
+    omega (
+      arith,
+      length_part w.bytes.items (w.start - w.passed) w.end (omega (arith, sound.ordered)) sound.inside,
+      length_part w.bytes.items w.start w.end sound.ordered sound.inside,
+      sound.passed,
+      sound.ordered,
+    )
+
+pub gone_long : (w : Window) → IsWindow w → length (take w.passed (block w)) ≡ w.passed
+gone_long w sound = length-take-le w.passed (block w) (omega (arith, block_long w sound))
+
 -- where reading is over and did not fail, all was read
 pub read_whole : (is_whole : Bool) (failure : Option ErrorKind) (error : Option Error)
     → failure ≡ option_map error_kind error → ¬ ((is_whole ≡ false) × (error ≡ None)) → failure ≡ None
@@ -103,6 +128,17 @@ reads_more : (unread now left : Option (List ℕ)) (failure : Option ErrorKind) 
     → r.failure ≡ option_map error_kind r.error → ReadsOn unread failure first now r.failure
     → Consumes now left piece → HasReadOn r piece s → ReadsOn unread failure (first ++ piece) left s.failure
 reads_more unread now left failure r s first piece sound reads consumed on = grind (arith, Consumes-trans, failed_on)
+
+-- where the text had ended it stays so
+ended_on : (is_whole : Bool) (r s : Reading) (first piece : List ℕ)
+    → (is_whole ≡ true → (first ≡ []) × (r.is_whole ≡ true)) → HasReadOn r piece s
+    → is_whole ≡ true → (first ++ piece ≡ []) × (s.is_whole ≡ true)
+ended_on is_whole r s first piece before on is =
+    let was = before is in
+    let still = on (λ is_open. absurd (cc)) in (
+      ap (λ l. l ++ piece) was.0 ∙ still.0,
+      ap (λ (q : Reading). q.is_whole) still.1 ∙ was.1,
+    )
 
 -- nothing is known to follow where nothing is left to be read
 pub known_end : (unread : Option (List ℕ)) → IsAtEnd unread → known unread ≡ []
@@ -209,6 +245,7 @@ module _ (IsFirst : List ℕ → ℕ → Option MatchValue → Type 0) (Begins :
           is_over = gone.is_over;
           reads = reads_more old.unread unread left old.failure r s gone.piece read.0 sound.failure gone.reads read.1
               read.3;
+          stays = ended_on old.is_whole r s gone.piece read.0 gone.stays read.3;
           passed = grind (arith, append_assoc, drop-append-le, length-append);
         }
 
@@ -219,6 +256,14 @@ module _ (IsFirst : List ℕ → ℕ → Option MatchValue → Type 0) (Begins :
       -- how much is read then
       gone_len : (now.offset - margin) + length now.held ≡ (old.offset - margin) + length seen
       gone_len = grind (arith, length-drop)
+
+      -- what is known of the end of the text
+      knows_end : new.unread ≡ now.unread → new.is_whole ≡ now.is_whole → (now.is_whole ≡ true → IsAtEnd now.unread)
+          → KnowsEnd old gone.piece new
+      knows_end unread_is whole_is end = record {
+        stays = λ whole. let was = gone.stays whole in (was.0, whole_is ∙ was.1);
+        end = λ whole. subst IsAtEnd (sym unread_is) (end (sym whole_is ∙ whole));
+      }
 
       -- where it ends, past all bytes that were read
       over_all : new ≡ record now {
@@ -233,17 +278,20 @@ module _ (IsFirst : List ℕ → ℕ → Option MatchValue → Type 0) (Begins :
 
       -- what it gives where it goes on behind a match
       pub goes_behind : (found : MatchValue)
-          → IsFirstAhead IsFirst Begins margin now.offset (Some found) (now.held ++ known now.unread)
+          → ((more : List ℕ) → (now.is_whole ≡ true → more ≡ [])
+          → IsFirstAhead IsFirst Begins margin now.offset (Some found) (now.held ++ more))
+          → (now.is_whole ≡ true → IsAtEnd now.unread)
           → now.offset < found.end → found.end ≤ (now.offset - margin) + length now.held → found.end < 2 ^ 64
           → new ≡ record now {
             held = drop ((found.end - margin) - (now.offset - margin)) now.held;
             offset = found.end;
           }
           → GoesBehind IsFirst Begins margin old found new
-      goes_behind found first some within fits is =
+      goes_behind found first end some within fits is =
           let passed = gone.passed in
           let len = gone_len in
           let unread_is : new.unread ≡ now.unread = ap (λ (m : StreamValue). m.unread) is in
+          let whole_is : new.is_whole ≡ now.is_whole = ap (λ (m : StreamValue). m.is_whole) is in
           let failure_is : new.failure ≡ now.failure = ap (λ (m : StreamValue). m.failure) is in
           let sum : ((now.offset - margin) - (old.offset - margin))
           + ((found.end - margin) - (now.offset - margin))
@@ -259,9 +307,10 @@ module _ (IsFirst : List ℕ → ℕ → Option MatchValue → Type 0) (Begins :
           record {
             piece = gone.piece;
             reads = rw (unread_is, failure_is) gone.reads;
-            leftmost = subst (λ (u : Option (List ℕ)). IsFirstAhead IsFirst Begins margin old.offset (Some found)
-                (seen ++ known u)) (sym unread_is)
-                (first_ahead old.offset now.offset seen now.held passed (known now.unread) (Some found) first);
+            knows = knows_end unread_is whole_is end;
+            leftmost = λ more over.
+                first_ahead old.offset now.offset seen now.held passed more (Some found)
+                (first more (λ whole. over (whole_is ∙ whole)));
             some = omega (arith, some, passed.later);
             within = omega (arith, within, len);
             fits = fits;
@@ -269,16 +318,19 @@ module _ (IsFirst : List ℕ → ℕ → Option MatchValue → Type 0) (Begins :
           }
 
       -- where it is over
-      pub ends_whole : IsAtEnd now.unread → now.failure ≡ None
+      pub ends_whole : now.is_whole ≡ true → IsAtEnd now.unread → now.failure ≡ None
           → IsFirstAhead IsFirst Begins margin now.offset None now.held
           → new ≡ record now { held = []; offset = (now.offset - margin) + length now.held; is_over = true }
           → EndsWhole IsFirst Begins margin old new
-      ends_whole end sound nothing is =
+      ends_whole whole end sound nothing is =
           let unread_is : new.unread ≡ now.unread = ap (λ (m : StreamValue). m.unread) is in
+          let whole_is : new.is_whole ≡ now.is_whole = ap (λ (m : StreamValue). m.is_whole) is in
           let failure_is : new.failure ≡ now.failure = ap (λ (m : StreamValue). m.failure) is in
           record {
             piece = gone.piece;
             reads = rw (unread_is, failure_is) gone.reads;
+            knows = knows_end unread_is whole_is (λ _. end);
+            is_whole = whole_is ∙ whole;
             end = rw unread_is end;
             no_failure = failure_is ∙ sound;
             nothing = subst (IsFirstAhead IsFirst Begins margin old.offset None) (append-nil seen)
@@ -288,19 +340,22 @@ module _ (IsFirst : List ℕ → ℕ → Option MatchValue → Type 0) (Begins :
           }
 
       -- and where reading failed
-      pub ends_failed : (error : Error) → now.failure ≡ Some (error_kind error)
+      pub ends_failed : (error : Error) → (now.is_whole ≡ true → IsAtEnd now.unread)
+          → now.failure ≡ Some (error_kind error)
           → ((more : List ℕ) → PassesOver IsFirst Begins margin now.offset
           ((now.offset - margin) + length now.held - (longest_of old.search.query.patterns + margin - 1))
           (now.held ++ more))
           → new ≡ record now { held = []; offset = (now.offset - margin) + length now.held; is_over = true }
           → EndsFailed IsFirst Begins margin old error new
-      ends_failed error failed none is =
+      ends_failed error end failed none is =
           let unread_is : new.unread ≡ now.unread = ap (λ (m : StreamValue). m.unread) is in
+          let whole_is : new.is_whole ≡ now.is_whole = ap (λ (m : StreamValue). m.is_whole) is in
           let failure_is : new.failure ≡ now.failure = ap (λ (m : StreamValue). m.failure) is in
           let offset_is : new.offset ≡ (now.offset - margin) + length now.held = grind arith in
           record {
             piece = gone.piece;
             reads = rw (unread_is, failure_is) gone.reads;
+            knows = knows_end unread_is whole_is end;
             failure = failure_is ∙ failed;
             nothing = λ more.
                 subst (λ (n : ℕ). PassesOver IsFirst Begins margin old.offset
@@ -406,7 +461,8 @@ module _ (IsFirst : List ℕ → ℕ → Option MatchValue → Type 0) (Begins :
           let whole : stands.before ++ ((m.held ++ goes.piece) ++ known run.0.unread) ≡ text = grind arith in
           let offset_is : run.0.offset ≡ found.end = ap (λ (v : StreamValue). v.offset) goes.goes_on in
           over.some text m.offset found (rest ++ more)
-          (subst (λ (t : List ℕ). IsFirst t m.offset (Some found)) whole (goes.leftmost stands.before stands.offset))
+          (subst (λ (t : List ℕ). IsFirst t m.offset (Some found)) whole (goes.leftmost (known run.0.unread)
+          (λ is. known_end run.0.unread (goes.knows.end is)) stands.before stands.offset))
           (subst (λ (k : ℕ). AreAll text k (rest ++ more)) offset_is
           (streamed_first run.0 rest n more (stands_behind m found run.0 stands step) run.2 list))
 
@@ -424,3 +480,79 @@ module _ (IsFirst : List ℕ → ℕ → Option MatchValue → Type 0) (Begins :
           subst (AreAll text m.offset) (append-nil all)
           (streamed_first m all n [] stands run (over.none text n.offset
           (subst (λ (t : List ℕ). IsFirst t n.offset None) whole (ends.nothing there.before there.offset))))
+
+-- an iteration up to its first None, from where it was: what it read meanwhile, and all its matches
+module _ (IsFirst : List ℕ → ℕ → Option MatchValue → Type 0) (Begins : List ℕ → ℕ → ℕ → ℕ → Type 0) (margin : ℕ)
+    (AreAll : List ℕ → ℕ → List MatchValue → Type 0) (over : GoesOverAll IsFirst AreAll)
+  where
+    pub record HasReadAll (m : StreamValue) (all : List MatchValue) (ended : StreamValue) : Type 0 where
+      pub piece : List ℕ
+      pub reads : Consumes m.unread ended.unread piece
+      pub stays : m.is_whole ≡ true → piece ≡ []
+      pub are_all : (before : List ℕ) → length before ≡ m.offset - margin
+          → AreAll (before ++ (m.held ++ piece)) m.offset all
+      pub len : ended.offset ≡ (m.offset - margin) + length (m.held ++ piece)
+
+    read_last : (m ended : StreamValue) → EndsWhole IsFirst Begins margin m ended → HasReadAll m [] ended
+    read_last m ended ends = record {
+      piece = ends.piece;
+      reads = ends.reads.consumed;
+      stays = λ whole. (ends.knows.stays whole).0;
+      are_all = λ before len. over.none (before ++ (m.held ++ ends.piece)) m.offset (ends.nothing before len);
+      len = ap (λ (v : StreamValue). v.offset) ends.over;
+    }
+
+    read_behind : (m : StreamValue) (found : MatchValue) (more : List MatchValue) (n ended : StreamValue)
+        → GoesBehind IsFirst Begins margin m found n → HasReadAll n more ended → HasReadAll m (found ∷ more) ended
+    read_behind m found more n ended goes rest =
+        let seen = m.held ++ goes.piece in
+        let k = (found.end - margin) - (m.offset - margin) in
+        let held : n.held ≡ drop k seen = ap (λ (v : StreamValue). v.held) goes.goes_on in
+        let offset_is : n.offset ≡ found.end = ap (λ (v : StreamValue). v.offset) goes.goes_on in
+        let within : k ≤ length seen = omega (arith, goes.within, goes.some) in
+        let longer = append_assoc m.held goes.piece rest.piece in
+        record {
+          piece = goes.piece ++ rest.piece;
+          reads = Consumes-trans m.unread n.unread ended.unread goes.piece rest.piece goes.reads.consumed rest.reads;
+          stays = λ whole.
+              let was = goes.knows.stays whole in ap (λ l. l ++ rest.piece) was.0 ∙ rest.stays was.1;
+          are_all = λ before len.
+              let long = length-take-le k seen within in
+              let here = rest.are_all (before ++ take k seen)
+              (omega (arith, length-append before (take k seen), long, len, offset_is, goes.some)) in
+              let text : (before ++ take k seen) ++ (n.held ++ rest.piece) ≡ before ++ (seen ++ rest.piece) = rw (
+                held,
+                append_assoc before (take k seen) (drop k seen ++ rest.piece),
+                ← append_assoc (take k seen) (drop k seen) rest.piece,
+                take-append-drop k seen,
+              ) refl in
+              subst (λ (l : List ℕ). AreAll (before ++ l) m.offset (found ∷ more)) longer
+              (over.some (before ++ (seen ++ rest.piece)) m.offset found more
+              (goes.leftmost rest.piece rest.stays before len)
+              (subst (λ (n : ℕ). AreAll (before ++ (seen ++ rest.piece)) n more) offset_is
+              (subst (λ (l : List ℕ). AreAll l n.offset more) text here)));
+          len =
+              let left = ap (λ (l : List ℕ). length l) held ∙ length-drop k seen in
+              omega (
+                arith,
+                rest.len,
+                length-append n.held rest.piece,
+                left,
+                within,
+                offset_is,
+                goes.some,
+                length-append seen rest.piece,
+                ap (λ (l : List ℕ). length l) longer,
+              );
+        }
+
+    pub read_all : (m : StreamValue) (all : List MatchValue) (n ended : StreamValue) → m.is_over ≡ false
+        → Yields (GivesAhead IsFirst Begins margin) m (map Ok all) n
+        → GivesAhead IsFirst Begins margin n None ended → HasReadAll m all ended
+    read_all m [] n ended not_over stays last =
+        let here = subst (λ (v : StreamValue). GivesAhead IsFirst Begins margin v None ended) (sym stays) last in
+        read_last m ended (here.1 not_over)
+    read_all m (found ∷ more) n ended not_over run last =
+        let goes = run.1.2 in
+        read_behind m found more run.0 ended goes
+        (read_all run.0 more n ended (ap (λ (v : StreamValue). v.is_over) goes.goes_on ∙ not_over) run.2 last)

@@ -12,10 +12,11 @@ use Rattle.std.specs.List.{All, slice_range}
 use Rattle.std.proofs.Math.Utf8.{encode, encodes, scalar, scalars}
 use Rattle.literal_base.specs.Leftmost.{IsLeftmostMatch}
 use Rattle.literal_base.specs.MatchValue.{MatchValue}
-use Rattle.literal_base.specs.Occurs.{NoneIsEmpty, Occurs, case_folded, pattern_at, rest_from}
+use Rattle.literal_base.specs.Occurs.{NoneIsEmpty, Occurs, between, case_folded, pattern_at, rest_from}
 use Rattle.literal_base.specs.declared.search.Span.{Span}
 use Rattle.literal_search.specs.MatchesValue.{GivesMatch, MatchesValue}
 use Rattle.literal_search.specs.SearchValue.{SearchValue}
+use Rattle.literal_search.specs.WholeWords.{IsFirstAloneBy, WholeWordsValue}
 
 -- two tests that both hold
 both_true : (x y : Bool) → (x && y) ≡ true → (x ≡ true) × (y ≡ true)
@@ -118,3 +119,14 @@ found_between search haystack m n found search_is haystack_is to_end step texts 
     let both = occurs_between search.query.patterns search.ignore_case haystack (rest_from haystack m.at) found.pattern
     found.start texts not_empty is_text (omega arith) here.occurs in
     (both.0, subst (IsCharBoundary haystack) (sym here.whole) both.1)
+
+-- and of a whole word that is the first from an offset on
+pub word_between : (words : WholeWordsValue) (haystack sides : List ℕ) (at : ℕ) (found : MatchValue)
+    → IsFirstAloneBy words haystack sides (between at (length haystack)) (Some found)
+    → All IsUtf8 words.search.query.patterns → NoneIsEmpty words.search.query.patterns → IsUtf8 haystack
+    → IsCharBoundary haystack found.start × IsCharBoundary haystack found.end
+word_between words haystack sides at found first texts not_empty is_text =
+    let both = occurs_between words.search.query.patterns words.search.ignore_case haystack
+    (between at (length haystack)) found.pattern found.start texts not_empty is_text (omega arith)
+    first.occurs.occurs in
+    (both.0, subst (IsCharBoundary haystack) (sym first.whole) both.1)

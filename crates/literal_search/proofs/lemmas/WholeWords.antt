@@ -1,5 +1,5 @@
 -- The whole words that begin at one offset, and what is scanned for them.
-use Rattle.std.proofs.Common.{◌≡◌, ◌+◌, ◌-◌, ◌*◌, ◌<◌, ◌≤◌, ◌⊎◌, ℕ, Bool, List, [], None, Option, Some, ◌++◌, ◌∷◌}
+use Rattle.std.proofs.Common.{◌≡◌, ◌+◌, ◌-◌, ◌<◌, ◌≤◌, ◌⊎◌, ℕ, Bool, List, [], None, Option, Some, ◌++◌, ◌∷◌}
 use Rattle.std.proofs.Common.{append_assoc, arith, inl, inr, length, suc, subst, zero}
 use Rattle.std.proofs.Math.Nat.{mul-le-mul_right}
 use Rattle.std.proofs.lemmas.Bool.{cases_Bool, cases_lt, false≢true}
@@ -11,15 +11,15 @@ use Rattle.literal_base.specs.Occurs.{NoneIsEmpty, between, pattern_at}
 use Rattle.literal_base.specs.declared.packed.MatchKind.TheVariants.{LeftmostLongest}
 use Rattle.literal_base.specs.declared.search.Span.{Span}
 use Rattle.literal_search.specs.Inside.WholeWords.{AreWordParts, AreWordsFor, AreWordsIn, AreWordsUpTo, AreWordsUpToBy}
-use Rattle.literal_search.specs.Inside.WholeWords.{ForWords, IsBestWord, IsWordAt, ScansEnds, WordParts}
+use Rattle.literal_search.specs.Inside.WholeWords.{ForWords, IsBestHere, IsBestWord, IsWordAt, ScansEnds, WordParts}
 use Rattle.literal_search.specs.Inside.WholeWords.{whole_words_value}
 use Rattle.literal_search.specs.Prepared.{IsPrepared}
 use Rattle.literal_search.specs.PreparedWords.{PreparedWordsValue}
-use Rattle.literal_search.specs.SearchValue.{ScansNext, SearchValue}
+use Rattle.literal_search.specs.LookUps.{LookUps, ScansNext, ScansRest}
+use Rattle.literal_search.specs.SearchValue.{SearchValue, most_scanned}
 use Rattle.literal_search.specs.WholeWords.{AreWholeWordsBy, IsAlone, IsFirstAlone, IsFirstAloneBy, IsLeftmostAloneBy}
-use Rattle.literal_search.specs.WholeWords.{OccursAloneBy, ScansWordsAtMost, WholeWordsValue}
-use Rattle.literal_search.specs.WholeWords.{most_anew, most_at_start}
-use Rattle.literal_search.specs.declared.backward.TheConstants.{LEAST}
+use Rattle.literal_search.specs.WholeWords.{OccursAloneBy, ScansWordsAtMost, ScansWordsBy, ScansWordsRest}
+use Rattle.literal_search.specs.WholeWords.{WholeWordsValue, most_at_start}
 use Rattle.literal_search.specs.declared.word_search.Words.{Words}
 use Rattle.literal_base.proofs.lemmas.Callers.{none_longer}
 use Rattle.literal_base.proofs.lemmas.Exists.{leftmost_or_none}
@@ -39,16 +39,10 @@ for_prepared words w are P holds search is longest =
     (holds search (are.back.is_for search is)
     (record { longest = longest; some = is.tables.kept.some }))
 
--- what is scanned while an end gets on by one byte or more
-pub ends_on : (longest start at end : ℕ) (old now new : Counts) → ScansEnds longest at end old now
-    → new ≡ record now { scanned = new.scanned } → new.scanned ≤ now.scanned + (longest + 1) → start + 1 ≤ at
-    → ScansEnds longest start end old new
-ends_on longest start at end old now new so_far others most less = grind (arith, mul-le-mul_right)
-
 -- what is scanned with one byte before
-pub ends_whole : (longest start end : ℕ) (old now new : Counts) → now ≡ record old { scanned = now.scanned }
-    → now.scanned ≤ old.scanned + 1 → ScansEnds longest start end now new → ScansEnds longest start (end + 1) old new
-ends_whole longest start end old now new others most scans = grind (arith, scanned_on)
+pub ends_whole : (start end : ℕ) (old now new : Counts) → now ≡ record old { scanned = now.scanned }
+    → now.scanned ≤ old.scanned + 1 → ScansEnds start end now new → ScansEnds start (end + 1) old new
+ends_whole start end old now new others most scans = grind (arith, scanned_on)
 
 -- no pattern is empty
 pub is_some : (p : WordParts) → AreWordParts p → (i : ℕ) → i < length p.search.query.patterns
@@ -76,6 +70,10 @@ module _ (p : WordParts) (parts : AreWordParts p) (haystack sides : List ℕ) (a
   lies_in : (i : ℕ) → IsWordFrom i found.start → IsWordAt p haystack sides (between found.start found.end) i
   lies_in i word = grind (arith, none_longer, word_in)
 
+  -- it is the best of what lies whole in it, too
+  pub best_here : IsBestHere p.search haystack found
+  best_here = grind arith
+
   -- no whole word begins before an offset, nor at the next start
   pub none_further : ((i k : ℕ) → at ≤ k → k < from → ¬ IsWordFrom i k)
       → (at ≤ found.start → (i : ℕ) → ¬ IsWordAt p haystack sides (between found.start found.end) i)
@@ -99,89 +97,56 @@ module _ (p : WordParts) (parts : AreWordParts p) (haystack sides : List ℕ) (a
       (between at end) word
   best_is_leftmost none after word best = grind (arith, cases_lt, lies_in, word_in)
 
--- what is scanned until the next start, and there
-pub words_on : (longest : ℕ) (span : Span) (first old known before further : ℕ) (found : MatchValue)
-    (t0 t1 t2 t3 : Counts) → ScansWordsAtMost longest span first old known before t0 t1
-    → ScansNext longest span old before further (Some found) t1 t2 → before ≤ further
-    → ScansEnds longest found.start (found.end + 1) t2 t3 → found.end ≤ found.start + longest → old ≤ found.start
-    → span.start ≤ old → ScansWordsAtMost longest span first (found.start + 1) known further t0 t3
-words_on longest span first old known before further found t0 t1 t2 t3 so_far next later ends short on after =
-    let w = longest + 1 in
-    let last : found.end + 1 ≤ found.start + w = omega (arith, short) in
+-- what is scanned up to the next start, and for the whole words that begin there
+pub words_there : (longest first old : ℕ) (before looked after : LookUps) (found : MatchValue) (t0 t1 t2 t3 : Counts)
+    → ScansWordsBy longest first old before looked t0 t1 → ScansNext looked after t1 t2
+    → ScansEnds found.start (found.end + 1) t2 t3 → found.end ≤ found.start + longest → old ≤ found.start
+    → ScansWordsAtMost longest first (found.start + 1) before.most after.most t0 t3
+words_there longest first old before looked after found t0 t1 t2 t3 so_far next ends short on =
     let starts : old + 1 ≤ found.start + 1 = omega (arith, on) in
-    let here : t3.scanned ≤ t2.scanned + most_at_start longest = omega (arith, ends.most, mul-le-mul_right w last) in
+    let here : t3.scanned ≤ t2.scanned + most_at_start longest = omega (arith, ends.most, short) in
     record {
-      others = scanned_on t0 t2 t3 (scanned_on t0 t1 t2 so_far.others next.others) ends.others;
-      most = λ small. omega (
-        arith,
-        so_far.most small,
-        next.marked small,
-        later,
-        here,
-        mul-le-mul_right (most_at_start longest) starts,
-      );
-      long = λ big. omega (
-        arith,
-        so_far.long big,
-        (next.found big).0,
-        here,
-        after,
-        mul-le-mul_right (most_anew longest span) starts,
-      );
+      others = scanned_on t0 t2 t3 (scanned_on t0 t1 t2 so_far.at_most.others next.others) ends.others;
+      most = omega (arith, so_far.at_most.most, next.most, here, mul-le-mul_right (most_at_start longest) starts);
     }
 
--- what is scanned in the rest of a span, where no pattern begins
-pub words_end : (longest : ℕ) (span : Span) (first old known before further : ℕ) (t0 t1 t2 : Counts)
-    → ScansWordsAtMost longest span first old known before t0 t1
-    → ScansNext longest span old before further None t1 t2 → before ≤ further → span.start ≤ old
-    → old ≤ span.end → ScansWordsAtMost longest span first span.end known further t0 t2
-words_end longest span first old known before further t0 t1 t2 so_far next later after inside =
-    record {
-      others = scanned_on t0 t1 t2 so_far.others next.others;
-      most = λ small. grind (arith, mul-le-mul_right);
-      long = λ big. elim (cases_lt old span.end) [
-        | inl more ↦ omega (
-          arith,
-          so_far.long big,
-          (next.found big).0,
-          after,
-          mul-le-mul_right (most_anew longest span) more,
-        )
-        | inr ended ↦
-            omega (arith, so_far.long big, (next.found big).0, mul-le-mul_right (most_anew longest span) inside)
-      ];
-    }
+pub words_on : (longest first old : ℕ) (before looked after : LookUps) (found : MatchValue) (t0 t1 t2 t3 : Counts)
+    → ScansWordsBy longest first old before looked t0 t1 → ScansNext looked after t1 t2
+    → ScansEnds found.start (found.end + 1) t2 t3 → t2.scanned ≤ t3.scanned → found.end ≤ found.start + longest
+    → old ≤ found.start → ScansWordsBy longest first (found.start + 1) before after t0 t3
+words_on longest first old before looked after found t0 t1 t2 t3 so_far next ends grows short on = record {
+  at_most = words_there longest first old before looked after found t0 t1 t2 t3 so_far next ends short on;
+  least = omega (arith, so_far.least, next.least, grows);
+}
+
+-- what is scanned where there is no further start
+pub words_end : (longest first old end : ℕ) (before looked after : LookUps) (t0 t1 t2 : Counts)
+    → ScansWordsBy longest first old before looked t0 t1 → ScansNext looked after t1 t2 → old ≤ end
+    → ScansWordsBy longest first end before after t0 t2
+words_end longest first old end before looked after t0 t1 t2 so_far next inside = record {
+  at_most = record {
+    others = scanned_on t0 t1 t2 so_far.at_most.others next.others;
+    most = omega (arith, so_far.at_most.most, next.most, mul-le-mul_right (most_at_start longest) inside);
+  };
+  least = omega (arith, so_far.least, next.least);
+}
 
 -- it is no more than what may be scanned up to the end of the span
-pub words_most : (longest : ℕ) (span : Span) (first at known further : ℕ) (t0 t1 : Counts)
-    → ScansWordsAtMost longest span first at known further t0 t1 → at ≤ span.end → further ≤ span.end
-    → ScansWordsAtMost longest span first span.end known span.end t0 t1
-words_most longest span first at known further t0 t1 scans inside later = record {
+pub words_most : (longest : ℕ) (span : Span) (first at : ℕ) (before after : LookUps) (t0 t1 : Counts)
+    → ScansWordsAtMost longest first at before.most after.most t0 t1 → at ≤ span.end
+    → after.most ≤ most_scanned longest (span.end - span.start) → ScansWordsRest longest span first before t0 t1
+words_most longest span first at before after t0 t1 scans inside few = record {
   others = scans.others;
-  most = λ small. omega (arith, scans.most small, later, mul-le-mul_right (most_at_start longest) inside);
-  long = λ big. omega (arith, scans.long big, mul-le-mul_right (most_anew longest span) inside);
+  most = omega (arith, scans.most, few, mul-le-mul_right (most_at_start longest) inside);
 }
 
 -- nor is what is scanned where the next start is not found, since the tables are damaged
-pub words_damaged : (longest : ℕ) (span : Span) (first old known before : ℕ) (t0 t1 t2 : Counts)
-    → ScansWordsAtMost longest span first old known before t0 t1 → t2 ≡ record t1 { scanned = t2.scanned }
-    → t2.scanned ≤ t1.scanned + 3 * (span.end - before) → before ≤ span.end → span.start ≤ old → old ≤ span.end
-    → (LEAST < longest → before ≡ old) → ScansWordsAtMost longest span first span.end known span.end t0 t2
-words_damaged longest span first old known before t0 t1 t2 so_far others most later after inside ahead = record {
-  others = scanned_on t0 t1 t2 so_far.others others;
-  most = λ small. omega (arith, so_far.most small, most, later, mul-le-mul_right (most_at_start longest) inside);
-  long = λ big. elim (cases_lt old span.end) [
-    | inl more ↦
-        omega (arith, so_far.long big, most, ahead big, after, mul-le-mul_right (most_anew longest span) more)
-    | inr ended ↦ omega (
-      arith,
-      so_far.long big,
-      most,
-      ahead big,
-      ended,
-      mul-le-mul_right (most_anew longest span) inside,
-    )
-  ];
+pub words_damaged : (longest : ℕ) (span : Span) (first old : ℕ) (before looked : LookUps) (t0 t1 t2 : Counts)
+    → ScansWordsBy longest first old before looked t0 t1 → ScansRest longest span looked t1 t2 → old ≤ span.end
+    → ScansWordsRest longest span first before t0 t2
+words_damaged longest span first old before looked t0 t1 t2 so_far rest inside = record {
+  others = scanned_on t0 t1 t2 so_far.at_most.others rest.others;
+  most = omega (arith, so_far.at_most.most, rest.most, mul-le-mul_right (most_at_start longest) inside);
 }
 
 -- the whole words so far, with the next one

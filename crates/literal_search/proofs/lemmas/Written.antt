@@ -7,11 +7,12 @@ use Rattle.literal_search.specs.Inside.Prepared.{checked}
 use Rattle.literal_search.specs.Prepared.{check_of}
 
 -- the parts, one behind the other, and the check over them
-pub assembled : (version width count rows_len longest check : ℕ) (lengths rows classes starts ends prints all : List ℕ)
-    → all ≡ version ∷ 0 ∷ width ∷ count ∷ rows_len ∷ longest
+pub assembled : (version width count rows_len longest kind check : ℕ)
+    (lengths rows classes starts ends prints all : List ℕ)
+    → all ≡ version ∷ 0 ∷ width ∷ count ∷ rows_len ∷ longest ∷ kind
     ∷ ((((lengths ++ rows) ++ classes) ++ starts) ++ ends) ++ prints
     → check ≡ check_of (slice_range all 2 (length all))
     → set all 1 check ≡ checked version
-    (width ∷ count ∷ rows_len ∷ longest ∷ lengths ++ (rows ++ classes) ++ starts ++ (ends ++ prints))
-assembled version width count rows_len longest check lengths rows classes starts ends prints all is check_is =
+    (width ∷ count ∷ rows_len ∷ longest ∷ kind ∷ lengths ++ (rows ++ classes) ++ starts ++ (ends ++ prints))
+assembled version width count rows_len longest kind check lengths rows classes starts ends prints all is check_is =
     grind (arith, append_assoc, take_all)

@@ -1,6 +1,6 @@
 -- Backward walks through a span, by tables that may be lent.
 use Rattle.std.specs.Prelude.{◌≡◌, ◌⊎◌, ℕ, ◌+◌, ◌-◌, ◌<◌, ◌≤◌, ◌^◌, ◌%◌, List, length, map}
-use Rattle.std.specs.Prelude.{IfOk, IfSome, MatchOption, Option, Result, max, reverse, slice_index}
+use Rattle.std.specs.Prelude.{IfOk, IfSome, MatchOption, Option, Result, max, min, reverse, slice_index}
 use Rattle.std.specs.Result.{IsOkAnd}
 use Rattle.literal_base.specs.Counts.{Counts}
 use Rattle.literal_base.specs.Leftmost.{IsBetter, IsLeftmostMatch}
@@ -10,6 +10,8 @@ use Rattle.literal_base.specs.declared.search.Span.{Span}
 use Rattle.literal_fingerprints.specs.ShortPatterns.{IsOnly}
 use Rattle.literal_fingerprints.specs.declared.short.ShortPattern.{ShortPattern}
 use Rattle.literal_ids.specs.declared.primitives.pattern_id.TheConstants.PatternID
+use Rattle.literal_base.specs.declared.packed.MatchKind.TheVariants.{LeftmostLongest}
+use Rattle.literal_search.specs.Links.{AreLinks}
 use Rattle.literal_search.specs.MatchesValue.{offset_after_start, offset_at_end}
 use Rattle.literal_search.specs.SearchValue.{SearchValue}
 use Rattle.literal_search.specs.Inside.Walk.{IsAt, classes_by, rows_by, text_of}
@@ -42,11 +44,13 @@ back_tables_by search b = record {
   longest = b.table.longest;
 }
 
--- the tables are those of a search, with the length of each pattern, and a scan that stops at each pattern, if there is
--- one
+-- the tables are those of a search, with the length of each pattern, its link if the longest match is preferred, and a
+-- scan that stops at each pattern, if there is one
 pub record AreBackFor (search : SearchValue) (b : Backward) : Type 0 where
   pub tables : AreBackTables (back_tables_by search b)
   pub lens : b.lens.now ≡ map (λ bytes. length bytes) search.query.patterns
+  pub links : search.query.kind ≡ LeftmostLongest
+      → AreLinks (texts_back (back_tables_by search b)) b.links.now (length search.query.patterns)
   pub prints : ArePrints search.query.patterns search.ignore_case b.prints.now
 
 -- a property holds of every search whose tables they are
@@ -103,6 +107,10 @@ abbrev pub offset_by : Continuation → Span → Option MatchValue → ℕ
 offset_by AtEnd = offset_at_end
 offset_by AfterStart = offset_after_start
 
+-- how many marks a list needs at most: those of a block, or of the span if it is shorter
+abbrev pub room_for : ℕ → Span → ℕ
+room_for longest span = min (max longest LEAST) (span.end - span.start)
+
 -- the list continues at `at`. There are marks before one offset, and up to another it is known what begins. The bytes
 -- before `at` were looked up
 pub record IsPlaced (longest : ℕ) (span : Span) (at : ℕ) (m : Marks) : Type 0 where
@@ -113,16 +121,17 @@ pub record IsPlaced (longest : ℕ) (span : Span) (at : ℕ) (m : Marks) : Type 
   pub full : (m.known ≡ span.start) ⊎ ((m.known ≡ span.end) ⊎ (longest ≤ m.known - span.start))
   pub looked : at ≤ looked_by longest span m.known
   pub first : at < m.upto → m.first ≤ at
-  pub listed : m.upto ≤ m.first + max longest LEAST
+  pub listed : m.upto ≤ m.first + room_for longest span
   pub upto_known : m.upto ≤ m.known
 
--- an iteration continues at `at`: with marks, if no pattern is longer than a block; otherwise nothing is known from
--- there on
-pub record IsAhead (longest : ℕ) (span : Span) (at : ℕ) (m : Marks) : Type 0 where
+-- a list that continues at `at` has a mark there, if it has marks so far. There are at most as many as fit
+pub record AreListed (span : Span) (at len : ℕ) (m : Marks) : Type 0 where
   pub after : span.start ≤ at
   pub inside : at ≤ span.end
-  pub short : longest ≤ LEAST → IsPlaced longest span at m
-  pub long : LEAST < longest → m.known ≡ at
+  pub first : at < m.upto → m.first ≤ at
+  pub listed : m.upto ≤ m.first + len
+  pub upto_known : m.upto ≤ m.known
+  pub known_inside : m.known ≤ span.end
 
 -- there are marks of each offset from `at` on up to one, and from there up to the known offset no pattern begins
 pub record AreMarked (p : BackTables) (haystack : List ℕ) (span : Span) (at : ℕ) (numbers : List ℕ) (m : Marks)
@@ -161,8 +170,8 @@ pub record IsOnlyOf (b : Backward) (short : ShortPattern) : Type 0 where
   pub few : short.len ≤ 16
   pub has_length : 0 < length b.lens.now
 
--- A match was found, or nothing begins before the answered offset. From there on it is known what begins, up to some
--- offset
+-- a match was found, or no pattern begins before the offset where the search goes on. From there up to the known offset
+-- the marks tell what begins
 pub record HasLookedAhead (b : Backward) (haystack : List ℕ) (span : Span) (from : ℕ) (numbers numbers_new : List ℕ)
     (m new : Marks) (old_counts counts : Counts) (result : Result Looked Damaged) : Type 0 where
   pub later : IfOk result (λ looked. (from ≤ looked.at) × (looked.at ≤ new.known))
@@ -170,7 +179,7 @@ pub record HasLookedAhead (b : Backward) (haystack : List ℕ) (span : Span) (fr
       (NoneFrom tables haystack span.end from looked.at)
       (IsLeftmostMatch tables.search.query tables.search.ignore_case haystack (between from span.end))))
   pub lies : IfOk result (λ looked. IfSome looked.found
-      (λ found. IsMatchBy b span from found × (found.start < looked.at) × (looked.at ≤ found.start + 1)))
+      (λ found. IsMatchBy b span from found × (looked.at ≡ found.start + 1)))
   pub marked : ForBackward b (λ tables. AreMarked tables haystack span from numbers m
       → IfOk result (λ looked. AreMarked tables haystack span looked.at numbers_new new))
   pub placed : IfOk result (λ looked. IsPlaced b.table.longest span looked.at new)

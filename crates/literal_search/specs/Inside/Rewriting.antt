@@ -36,3 +36,10 @@ IsOfFailure reading writing NotOneForEach = ⊥
 IsOfFailure reading writing OutOfMemory = ⊥
 IsOfFailure reading writing (ReadFailed error) = reading ≡ Some (error_kind error)
 IsOfFailure reading writing (WriteFailed error) = writing ≡ Some (error_kind error)
+
+-- the same, or nothing was read or written
+abbrev pub MayBeOfFailure : Option ErrorKind → Option ErrorKind → ReplaceStreamError → Type 0
+MayBeOfFailure reading writing NotOneForEach = ⊤
+MayBeOfFailure reading writing OutOfMemory = ⊤
+MayBeOfFailure reading writing (ReadFailed error) = reading ≡ Some (error_kind error)
+MayBeOfFailure reading writing (WriteFailed error) = writing ≡ Some (error_kind error)

@@ -1,15 +1,19 @@
 -- The fields of `Parts`, and definitions for private functions that build a search.
 use Rattle.std.specs.Prelude.{◌≡◌, ◌<◌, ◌≤◌, ℕ, List, ◌++◌, length, map}
 use Rattle.literal_base.specs.MatchValue.{MatchValue}
-use Rattle.literal_base.specs.Occurs.{between}
+use Rattle.literal_base.specs.Occurs.{IsValidSpan, between}
 use Rattle.literal_base.specs.declared.search.Span.{Span}
 use Rattle.literal_search.specs.SearchValue.{SearchValue, search_by, shortest_of, width_for}
 use Rattle.literal_base.specs.Greedy.{IsGreedyIn}
+use Rattle.literal_search.specs.Inside.Backward.{AreBackFor, IsSafe, back_tables_by}
+use Rattle.literal_search.specs.Inside.Cursor.{IsCursor, KnowsAhead}
 use Rattle.literal_search.specs.Prepared.{rows_in, width_in}
 use Rattle.literal_search.specs.Prepared.{BackTables, IsPrepared, back_tables_in, prepared_len, texts_back}
 use Rattle.literal_search.specs.States.{IsRowsLength}
 use Rattle.literal_search.specs.declared.BuildError.{BuildError}
 use Rattle.literal_search.specs.declared.BuildError.TheVariants.{OutOfMemory, TooManyStates}
+use Rattle.literal_search.specs.declared.backward.Backward.{Backward}
+use Rattle.literal_search.specs.declared.cursor.Cursor.{Cursor}
 use Rattle.literal_search.specs.declared.grow.GrowError.{GrowError}
 use Rattle.literal_search.specs.declared.grow.GrowError.TheVariants as grow_error
 use Rattle.literal_search.specs.declared.search.Parts.{Parts}
@@ -37,6 +41,15 @@ pub record AreKept (search : SearchValue) (numbers : List ℕ) : Type 0 where
 -- the fields hold the numbers of the search
 abbrev pub AreParts : Parts → Type 0
 AreParts p = AreKept (search_value p) p.numbers
+
+-- an iteration over a valid span, by the tables of a search
+pub record GoesOn (parts : Parts) (b : Backward) (haystack : List ℕ) (span : Span) (c : Cursor) : Type 0 where
+  pub are : AreParts parts
+  pub valid : IsValidSpan haystack span
+  pub safe : IsSafe b
+  pub is_for : AreBackFor (search_value parts) b
+  pub cursor : IsCursor b.table.longest span c
+  pub knows : KnowsAhead (back_tables_by (search_value parts) b) haystack span c
 
 -- the matches so far, before an offset: followed by the list of the rest, they are the list of the span
 pub record IsGreedyUpTo (search : SearchValue) (haystack : List ℕ) (span : Span) (done : List MatchValue) (at : ℕ)

@@ -1,6 +1,6 @@
 -- The known part of a text that is read in pieces, and what a search finds in it.
-use Rattle.std.specs.Prelude.{◌≡◌, ℕ, ◌+◌, ◌-◌, ◌*◌, ◌<◌, ◌≤◌, ◌^◌, ◌++◌, Bool, false, List, None, Option, Some, drop}
-use Rattle.std.specs.Prelude.{[], IfSome, if◌then◌else◌, length, max, true}
+use Rattle.std.specs.Prelude.{⊤, ◌≡◌, ℕ, ◌+◌, ◌-◌, ◌*◌, ◌<◌, ◌≤◌, ◌^◌, ◌++◌, Bool, false, List, None, Option, Some}
+use Rattle.std.specs.Prelude.{[], IfSome, drop, if◌then◌else◌, length, max, true}
 use Rattle.std.specs.Io.KnownBytes.{IsAtEnd}
 use Rattle.std.specs.IoError.{error_kind}
 use Rattle.std.specs.List.{slice_range}
@@ -8,17 +8,22 @@ use Rattle.std.specs.Option.{option_map}
 use Rattle.literal_base.specs.Greedy.{IsGreedy}
 use Rattle.literal_base.specs.Leftmost.{IsLeftmost}
 use Rattle.literal_base.specs.MatchValue.{MatchValue}
-use Rattle.literal_base.specs.Occurs.{Occurs, rest_from}
+use Rattle.literal_base.specs.Occurs.{IsValidSpan, Occurs, rest_from}
 use Rattle.literal_base.specs.declared.search.Span.{Span}
 use Rattle.literal_search.specs.SearchValue.{SearchValue, longest_of}
 use Rattle.literal_search.specs.Stream.{PassesOver, ReadsPiece, StreamValue}
 use Rattle.literal_search.specs.WholeWords.{AreWordsFrom, IsFirstAlone, OccursAlone}
+use Rattle.literal_search.specs.Inside.Backward.{AreBackFor, ForBackward, IsSafe}
+use Rattle.literal_search.specs.Inside.Cursor.{IsCursor, KnowsAhead}
+use Rattle.literal_search.specs.Inside.WholeWords.{AreTablesFor}
 use Rattle.literal_search.specs.declared.reading.Reading.{Reading}
+use Rattle.literal_search.specs.declared.sought.BlockSearch.{BlockSearch}
 use Rattle.literal_search.specs.declared.sought.Sought.{Sought}
 use Rattle.literal_search.specs.declared.sought.Sought.TheVariants.{Any, Words}
 use Rattle.literal_search.specs.declared.stream.SoFar.{SoFar}
 use Rattle.literal_search.specs.declared.stream.SoFar.TheVariants.{Found, NoneBefore}
 use Rattle.literal_search.specs.declared.window.Window.{Window}
+use Rattle.literal_search.specs.declared.word_search.Words as word_search
 
 -- the answer is the match itself, or an offset at which it begins or before it
 abbrev pub TellsOf : Option MatchValue → SoFar → Type 0
@@ -29,10 +34,16 @@ TellsOf leftmost (NoneBefore offset) = IfSome leftmost (λ found. offset ≤ fou
 abbrev pub held : Window → List ℕ
 held w = slice_range w.bytes.items w.start w.end
 
+-- the bytes of a block: those that are held, and those that were dropped since it began
+abbrev pub block : Window → List ℕ
+block w = slice_range w.bytes.items (w.start - w.passed) w.end
+
 -- the bytes lie in the room, and the offset after them fits a `usize`
 pub record IsWindow (w : Window) : Type 0 where
   pub ordered : w.start ≤ w.end
   pub inside : w.end ≤ length w.bytes.items
+  pub passed : w.passed ≤ w.start
+  pub begins : w.passed ≤ w.offset
   pub fits : w.offset + (w.end - w.start) < 2 ^ 64
 
 -- more may be read: the text has not ended, and reading has not failed
@@ -93,6 +104,36 @@ margin_of (Words words) = 1
 abbrev pub reach_of : Sought → ℕ
 reach_of sought = longest_of (search_of sought).query.patterns + margin_of sought
 
+-- the tables are those of what is searched for
+abbrev pub AreTablesOf : Sought → word_search.Words → Type 0
+AreTablesOf (Any search) w = IsSafe w.backward × AreBackFor search.now w.backward
+AreTablesOf (Words words) w = AreTablesFor words.now w
+
+-- a search that continues at an offset looks for the next pattern from there on, and for whole words from there on or
+-- from before
+abbrev pub LooksFrom : Sought → ℕ → ℕ → Type 0
+LooksFrom (Any search) from at = from ≡ at
+LooksFrom (Words words) from at = from ≤ at
+
+-- a search goes through a block, and continues at an offset of it
+pub record IsThrough (sought : Sought) (block : List ℕ) (at : ℕ) (s : BlockSearch) : Type 0 where
+  pub valid : IsValidSpan block s.span
+  pub whole : s.span.end ≡ length block
+  pub cursor : IsCursor s.words.backward.table.longest s.span s.cursor
+  pub knows : ForBackward s.words.backward (λ tables. KnowsAhead tables block s.span s.cursor)
+  pub looks_from : LooksFrom sought s.cursor.at at
+  pub inside : at ≤ s.span.end
+
+-- if it has begun, it goes through the block of a window, and continues at an offset of the text
+pub record IsSearchIn (sought : Sought) (w : Window) (at : ℕ) (s : BlockSearch) : Type 0 where
+  pub tables : AreTablesOf sought s.words
+  pub through : s.is_begun ≡ true → IsThrough sought (block w) (at - (w.offset - w.passed)) s
+
+-- after a match in a block it continues at its end
+abbrev pub GoesOnAfter : Sought → List ℕ → BlockSearch → SoFar → Type 0
+GoesOnAfter sought block s (Found found) = IsThrough sought block found.end s
+GoesOnAfter sought block s (NoneBefore offset) = ⊤
+
 -- an answer for a text from an offset on
 abbrev pub Answers : Sought → List ℕ → ℕ → SoFar → Type 0
 Answers sought text from (Found found) = IsFirst sought text from (Some found)
@@ -127,6 +168,7 @@ stream_value search w at r unread is_over = record {
   unread = unread;
   offset = at;
   failure = r.failure;
+  is_whole = r.is_whole;
   is_over = is_over;
 }
 
@@ -153,6 +195,7 @@ module _ (IsFirst : List ℕ → ℕ → Option MatchValue → Type 0) (Begins :
     pub search_is : new.search ≡ old.search
     pub is_over : new.is_over ≡ old.is_over
     pub reads : ReadsPiece old piece new
+    pub stays : old.is_whole ≡ true → (piece ≡ []) × (new.is_whole ≡ true)
     pub passed : HasPassed old.offset new.offset (old.held ++ piece) new.held
 
   -- a search is in this text: the bytes ahead are the text from its offset on

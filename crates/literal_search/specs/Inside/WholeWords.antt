@@ -1,21 +1,23 @@
 -- The data of a search for whole words, and the whole words that begin at one offset.
-use Rattle.std.specs.Prelude.{◌≡◌, ◌⊎◌, ◌+◌, ◌*◌, ◌++◌, ◌<◌, ◌≤◌, ℕ, Bool, List, MatchOption, Option, length}
+use Rattle.std.specs.Prelude.{◌≡◌, ◌⊎◌, ◌+◌, ◌++◌, ◌<◌, ◌≤◌, ℕ, Bool, List, MatchOption, Option, length}
+use Rattle.std.specs.Prelude.{IfSome, None, Some}
 use Rattle.literal_base.specs.Counts.{Counts}
-use Rattle.literal_base.specs.Leftmost.{IsBetter}
+use Rattle.literal_base.specs.Leftmost.{IsBetter, IsLeftmostMatch}
 use Rattle.literal_base.specs.MatchValue.{MatchValue}
 use Rattle.literal_base.specs.Occurs.{IsValidSpan, NoneIsEmpty, between, pattern_at}
 use Rattle.literal_base.specs.declared.packed.MatchKind.{MatchKind}
 use Rattle.literal_base.specs.declared.packed.MatchKind.TheVariants.{LeftmostLongest}
 use Rattle.literal_base.specs.declared.search.Span.{Span}
-use Rattle.literal_search.specs.SearchValue.{SearchValue, looked_by, search_by}
+use Rattle.literal_search.specs.LookUps.{LookUps}
+use Rattle.literal_search.specs.SearchValue.{SearchValue, search_by}
 use Rattle.literal_search.specs.WholeWords.{AreWholeWordsBy, OccursAloneBy, WholeWordsValue}
-use Rattle.literal_search.specs.Inside.Backward.{AreBackFor, AreMarked, ForBackward, IsAhead, IsMatchBy, IsSafe}
+use Rattle.literal_search.specs.Inside.Backward.{AreBackFor, ForBackward, IsMatchBy, IsSafe}
+use Rattle.literal_search.specs.Inside.Cursor.{IsCursor, KnowsAhead, look_ups_of}
 use Rattle.literal_search.specs.Inside.Prepared.{IsBackIn}
 use Rattle.literal_search.specs.PreparedWords.{PreparedWordsValue}
 use Rattle.literal_search.specs.WordText.{sides_of}
-use Rattle.literal_search.specs.declared.backward.TheConstants.{LEAST}
+use Rattle.literal_search.specs.declared.cursor.Cursor.{Cursor}
 use Rattle.literal_search.specs.declared.whole_words.Parts.{Parts}
-use Rattle.literal_search.specs.declared.word_search.KnownStarts.{KnownStarts}
 use Rattle.literal_search.specs.declared.word_search.Words.{Words}
 
 -- the data of a search for whole words: a search, the match kind, and the word bytes
@@ -61,10 +63,32 @@ IsFirstUpTo p haystack sides span end answer = MatchOption answer
     (λ found. IsWord p haystack sides span found × ((i : ℕ) → IsWordAt p haystack sides span i
     → (span.start + length (pattern_at p.search.query.patterns i) ≤ end) ⊎ (found.pattern ≤ i)))
 
--- at most one byte more than the longest pattern has is looked up for each byte by which an end advances
-pub record ScansEnds (longest start end : ℕ) (old new : Counts) : Type 0 where
+-- at most one byte is looked up for each byte by which an end advances
+pub record ScansEnds (start end : ℕ) (old new : Counts) : Type 0 where
   pub others : new ≡ record old { scanned = new.scanned }
-  pub most : new.scanned + start * (longest + 1) ≤ old.scanned + end * (longest + 1)
+  pub most : new.scanned + start ≤ old.scanned + end
+
+-- of the patterns that begin where a match does and lie whole in it, the search prefers that of the match
+abbrev pub IsBestHere : SearchValue → List ℕ → MatchValue → Type 0
+IsBestHere search haystack found =
+    IsLeftmostMatch search.query search.ignore_case haystack (between found.start found.end) found
+
+-- the match is not empty, lies in the haystack, is no longer than the longest pattern, and names one of the patterns
+pub record IsMatchWithin (w : Words) (haystack : List ℕ) (found : MatchValue) : Type 0 where
+  pub some : found.start < found.end
+  pub inside : found.end ≤ length haystack
+  pub short : found.end ≤ found.start + w.backward.table.longest
+  pub pattern : found.pattern < length w.backward.lens.now
+
+-- the same for the next shorter match there, or it is none
+abbrev pub AreShorter : Words → List ℕ → ℕ → ℕ → Option MatchValue → Type 0
+AreShorter w haystack start end next = IfSome next
+    (λ here. IsMatchWithin w haystack here × (here.start ≡ start) × (here.end ≤ end))
+
+-- where it ends, or the start, if there is none
+abbrev pub end_or : ℕ → Option MatchValue → ℕ
+end_or start None = start
+end_or start (Some here) = here.end
 
 -- the match whose pattern is not later in the list, of two
 abbrev pub IsEarlier : Option MatchValue → MatchValue → MatchValue → Type 0
@@ -85,6 +109,14 @@ pub record AreWordsFor (parts : WordParts) (w : Words) : Type 0 where
   pub is_for : AreBackFor parts.search w.backward
   pub same : word_parts w parts.search ≡ parts
 
+-- the tables are those of a `WholeWords`
+pub record AreTablesFor (words : WholeWordsValue) (w : Words) : Type 0 where
+  pub safe : IsSafe w.backward
+  pub search : SearchValue
+  pub is_for : AreBackFor search w.backward
+  pub parts : AreWordParts (word_parts w search)
+  pub same : whole_words_value (word_parts w search) ≡ words
+
 -- the tables are those of an array, which may be prepared for any search, or for none
 pub record AreWordsIn (words : PreparedWordsValue) (w : Words) : Type 0 where
   pub back : IsBackIn words.numbers w.backward
@@ -102,15 +134,16 @@ pub record IsMatchAtStart (w : Words) (span : Span) (found : MatchValue) : Type 
   pub start : found.start ≡ span.start
   pub lies : IsMatchBy w.backward span span.start found
 
--- the offset from which the next start is looked for, and the starts that are known from there on, in a valid span
-pub record AreKnownStarts (w : Words) (haystack : List ℕ) (span : Span) (s : KnownStarts) : Type 0 where
+-- an iteration over the starts of patterns in a valid span
+pub record AreKnownStarts (w : Words) (haystack : List ℕ) (span : Span) (starts : Cursor) : Type 0 where
   pub safe : IsSafe w.backward
   pub valid : IsValidSpan haystack span
-  pub ahead : IsAhead w.backward.table.longest span s.at s.marks
-  pub known : s.marks.known ≤ span.end
-  pub looked : s.at ≤ looked_by w.backward.table.longest span s.marks.known
-  pub marked : w.backward.table.longest ≤ LEAST
-      → ForBackward w.backward (λ tables. AreMarked tables haystack span s.at s.numbers s.marks)
+  pub cursor : IsCursor w.backward.table.longest span starts
+  pub knows : ForBackward w.backward (λ tables. KnowsAhead tables haystack span starts)
+
+-- bounds on the bytes that it has looked up
+abbrev pub starts_looked_up : Words → Span → Cursor → LookUps
+starts_looked_up w span starts = look_ups_of w.backward.table.longest span starts
 
 -- the whole words so far, by the sides of a haystack, before an offset: followed by the list of the rest, they are the
 -- list of the span

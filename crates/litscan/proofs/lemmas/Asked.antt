@@ -1,7 +1,7 @@
 -- Occurrences of words in a line that `-w` and `-x` allow. For `asked` and `scan`.
 use Rattle.std.proofs.Common.{◌≡◌, ℕ, ◌+◌, ◌<◌, ◌≤◌, ◌&&◌, Bool, true, false, List, [], length, get_or}
-use Rattle.std.proofs.Common.{Option, Some, None, MatchOption, is_some, slice_range}
-use Rattle.std.proofs.Common.{sym, subst, ◌∙◌, arith, inl, inr}
+use Rattle.std.proofs.Common.{Option, Some, None, IfSome, MatchOption, is_some, slice_range}
+use Rattle.std.proofs.Common.{ap, sym, subst, ◌∙◌, arith, inl, inr}
 use Rattle.std.proofs.lemmas.Bool.{and_from, and_parts, both_ways, cases_Bool, cases_lt, cond-false, cond-true}
 use Rattle.std.proofs.lemmas.Bool.{le-leb, leb-true, not-true}
 use Rattle.std.proofs.lemmas.List.{get_or_default}
@@ -9,16 +9,19 @@ use Rattle.std.proofs.lemmas.List.Folds.{Any-from_list_any, list_any_at}
 use Rattle.std.proofs.lemmas.List.FromFn.{get_or-range_with_len, length-range_with_len}
 use Rattle.std.proofs.lemmas.Slice.Eq.{bytes_eq-Decides}
 use Rattle.std.specs.List.{list_any, range_with_len}
-use Rattle.literal_base.specs.Leftmost.{IsBetter, IsLeftmostMatch}
+use Rattle.literal_base.specs.Leftmost.{IsBetter, IsLeftmost, IsLeftmostMatch}
 use Rattle.literal_base.specs.MatchValue.{MatchValue}
 use Rattle.literal_base.specs.Occurs.{Occurs, between, case_folded, one_occurs, pattern_at}
 use Rattle.literal_base.specs.Occurs.{rest_from, stands_at}
 use Rattle.literal_base.proofs.lemmas.Met.{occurs_if, one_occurs_if}
 use Rattle.literal_base.specs.declared.packed.MatchKind.TheVariants.{LeftmostLongest}
 use Rattle.literal_base.specs.declared.search.Span.{Span}
+use Rattle.literal_search.specs.MatchesValue.{GivesMatch, MatchesValue}
 use Rattle.literal_search.specs.SearchValue.{SearchValue}
 use Rattle.litscan.specs.Asked.{IsFirstAsked, NothingAsked, OccursAsked, is_asked, is_before_word, is_behind_word}
 use Rattle.litscan.specs.Asked.{one_asked}
+use Rattle.literal_search.proofs.lemmas.Callers.{matches_of}
+use Rattle.litscan.specs.Inside.Asked.{GoesAlong, IsAlong}
 use Rattle.litscan.specs.declared.options.Options.{Options}
 
 module _ (search : SearchValue) (options : Options) (line : List ℕ) where
@@ -72,6 +75,51 @@ module _ (search : SearchValue) (options : Options) (line : List ℕ) where
             (subst (λ k. IsBetter k search.query.patterns i found.pattern) (sym kind) (inl longer)) occurs)
         | inr not_longer ↦ omega (arith, leftmost.whole, not_longer)
       ]
+
+  -- without `-w` and `-x` the leftmost match is the first allowed one
+  pub all_asked : (span : Span) (answer : Option MatchValue) → options.whole ≡ false → options.alone ≡ false
+      → search.query.kind ≡ LeftmostLongest → IsLeftmost search.query search.ignore_case line span answer
+      → MatchOption answer (NothingAsked search options line span) (IsFirstAsked search options line span)
+  all_asked span None part any kind nothing = λ i at o. nothing i at o.occurs
+  all_asked span (Some found) part any kind leftmost = record {
+    occurs = record {
+      occurs = leftmost.occurs;
+      asked = cond-false options.whole _ _ part ∙ cond-false options.alone _ _ any;
+    };
+    whole = leftmost.whole;
+    first = λ i at o.
+        elim (cases_lt at found.start) [
+          | inl before ↦ absurd (leftmost.earliest i at before o.occurs)
+          | inr behind ↦ behind
+        ];
+    longest = λ i o. none_longer kind leftmost i o.occurs;
+  }
+
+  -- the next match of an iteration over the matches in the line
+  pub next_along : (from : ℕ) (m next : MatchesValue) (answer : Option MatchValue) → IsAlong search line from m
+      → GivesMatch m answer next
+      → IsLeftmost search.query search.ignore_case line (rest_from line from) answer
+  next_along from m next answer along step = grind arith
+
+  -- the iteration continues at its end
+  pub goes_along : (from : ℕ) (m next : MatchesValue) (answer : Option MatchValue) → IsAlong search line from m
+      → GivesMatch m answer next → IfSome answer (λ found. GoesAlong search options line found.end next)
+  goes_along from m next None along step = tt
+  goes_along from m next (Some found) along step = λ part any. record {
+    search_is = ap (λ (it : MatchesValue). it.search) step.goes_on ∙ along.search_is;
+    haystack_is = ap (λ (it : MatchesValue). it.haystack) step.goes_on ∙ along.haystack_is;
+    end_is = ap (λ (it : MatchesValue). it.span.end) step.goes_on ∙ along.end_is;
+    at_is = ap (λ (it : MatchesValue). it.at) step.goes_on;
+  }
+
+  -- where it has just begun
+  pub along_first : (m : MatchesValue) → m ≡ matches_of search line → GoesAlong search options line 0 m
+  along_first m begun = λ part any. record {
+    search_is = ap (λ (it : MatchesValue). it.search) begun;
+    haystack_is = ap (λ (it : MatchesValue). it.haystack) begun;
+    end_is = ap (λ (it : MatchesValue). it.span.end) begun;
+    at_is = ap (λ (it : MatchesValue). it.at) begun;
+  }
 
   -- if a leftmost match is not allowed, each allowed occurrence at its start is shorter
   pub is_shorter : {span : Span} {found : MatchValue} → search.query.kind ≡ LeftmostLongest

@@ -1,5 +1,6 @@
 use Rattle.std.proofs.Common.{◌<◌, ap, arith, length, refl, rules, ◌∙◌, subst, sym}
 use Rattle.literal_search.specs.SearchValue.{SearchValue}
+use Rattle.literal_search.proofs.lemmas.Callers.{scans_whole}
 use Rattle.search_promise.proofs.taken_in_turn.Goals as goal
 
 pub loop-found-preserved : goal.loop-found-preserved
@@ -24,16 +25,12 @@ returns-clause-greedy c =
 
 pub returns-clause-bounded : goal.returns-clause-bounded
 returns-clause-bounded c =
-    let scans = (c.iterations_scan_at_most.ensures.whole _ _ _ _ refl refl c.loop-found.invariant.run
+    scans_whole c.args.search.now.query.patterns c.args.haystack.now c.args.iterated.now c.next_counted.new.tally
+    (c.iterations_scan_at_most.ensures.bounded _ _ _ _ c.loop-found.invariant.run
     (record {
       gives = c.in_default.ensures.gives;
       scans = c.in_default.ensures.scans;
-    })).1 in
-    record {
-      others = scans.others;
-      short = λ short. omega (arith, scans.short short);
-      long = omega (arith, scans.long);
-    }
+    }))
 
 pub returns-in_err-push-clause-no_memory : goal.returns-in_err-push-clause-no_memory
 returns-in_err-push-clause-no_memory c =
@@ -44,9 +41,9 @@ returns-in_err-push-clause-no_memory c =
 
 pub returns-clause-each : goal.returns-clause-each
 returns-clause-each c =
-    let each = (c.iterations_scan_at_most.ensures.whole _ _ _ _ refl refl c.loop-found.invariant.run
+    let each = c.iterations_scan_at_most.ensures.each _ _ _ _ c.loop-found.invariant.run
     (record {
       gives = c.in_default.ensures.gives;
       scans = c.in_default.ensures.scans;
-    })).0 in
+    }) in
     omega (arith, each)

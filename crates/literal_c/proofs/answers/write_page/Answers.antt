@@ -5,7 +5,7 @@ use Rattle.literal_base.specs.MatchValue.{MatchValue}
 use Rattle.literal_base.specs.Occurs.{between}
 use Rattle.literal_c.specs.Answers.{AreNext, IsPage, MayBeFound, match_of}
 use Rattle.literal_c.specs.Inside.Given.{Rest, behind}
-use Rattle.literal_c.proofs.lemmas.Pages.{all_more, full_page, may_be_in_all, one_more}
+use Rattle.literal_c.proofs.lemmas.Pages.{all_more, full_page, last_written, may_be_in_all, one_more}
 use Rattle.literal_c.proofs.answers.write_page.Goals as goal
 
 pub loop-place-preserved : goal.loop-place-preserved
@@ -34,6 +34,7 @@ loop-place-preserved g c =
       last = so_far.last;
       stands = goes_on ∙ (ap (λ (r : Rest). behind r it.end) so_far.stands ∙ ap (behind all) (sym c.end.ensures.end));
       after = omega (arith, so_far.after, may.lies.start, may.lies.some, c.end.ensures.end);
+      ends = sym end ∙ sym (last_written start i found new lt);
       before = omega (arith, may.lies.end, c.end.ensures.end);
       matches = λ search is.
           let (whole, are_next) = so_far.matches search is in

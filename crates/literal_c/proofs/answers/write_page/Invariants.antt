@@ -1,7 +1,7 @@
 use Rattle.std.proofs.Common.{◌≡◌, ◌+◌, ◌≤◌, map, take, drop}
 use Rattle.std.specs.List.{All}
 use Rattle.literal_search.specs.SearchValue.{SearchValue}
-use Rattle.literal_c.specs.Answers.{AreNext, MayBeFound, match_of}
+use Rattle.literal_c.specs.Answers.{AreNext, MayBeFound, end_of_last, match_of}
 use Rattle.literal_c.specs.Inside.Given.{behind}
 use Rattle.literal_c.proofs.answers.write_page.Given as goal
 
@@ -13,6 +13,7 @@ invariant-loop-place g l =
       last : l.page.is_last ≡ 1;
       stands : g.M.LeftmostMatches.rest l.matches ≡ behind all l.page.next;
       after : l.fn.start + l.place-index ≤ l.page.next;
+      ends : l.page.next ≡ end_of_last all.span.start (map match_of (take l.place-index l.found));
       before : l.page.next ≤ all.span.end;
       matches : (search : SearchValue) → g.M.LeftmostMatches.is_for l.initial.matches search
           → g.M.LeftmostMatches.is_for l.matches search

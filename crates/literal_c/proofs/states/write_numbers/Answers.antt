@@ -1,6 +1,8 @@
-use Rattle.std.proofs.Common.{◌≡◌, ◌+◌, ◌-◌, ◌<◌, ◌≤◌, ◌∙◌, ◌++◌, ◌∷◌, [], ℕ, List, ap, arith, drop, get_or}
-use Rattle.std.proofs.Common.{length, min, subst, sym, take}
-use Rattle.std.proofs.lemmas.List.{drop-drop, drop-set-lt, take_min, take_more, take_more_set}
+use Rattle.std.proofs.Common.{◌≡◌, ◌⊎◌, ◌+◌, ◌-◌, ◌<◌, ◌≤◌, ◌∙◌, ◌++◌, ◌∷◌, [], ℕ, List, ap, arith, drop}
+use Rattle.std.proofs.Common.{get_or, inl, inr, length, min, subst, sym, take}
+use Rattle.std.proofs.lemmas.Bool.{cases_eq}
+use Rattle.std.proofs.lemmas.Grind.{get_or-set_at}
+use Rattle.std.proofs.lemmas.List.{drop-drop, drop-set-lt, get_or-set_other, take_min, take_more, take_more_set}
 use Rattle.std.proofs.lemmas.List.Elements.{All-push}
 use Rattle.std.specs.List.{All}
 use Rattle.literal_c.proofs.states.write_numbers.Goals as goal
@@ -31,6 +33,15 @@ loop-at-preserved c =
           ∙ (ap (λ l. l ++ get_or numbers at 0 ∷ []) so_far.written ∙ sym more);
       small = subst (All (λ number. number < c.args.limit)) (sym more)
           (All-push (λ number. number < c.args.limit) _ _ so_far.small c.if-numbers-at.false);
+      below = λ i.
+          elim (cases_eq i at) [
+            | inl is ↦
+                inr (subst (λ n. n < c.args.limit)
+                (sym (get_or-set_at places at i (get_or numbers at 0) 0 is inside)) c.if-numbers-at.false)
+            | inr other ↦
+                subst (λ n. (n ≡ get_or c.args.places.now i 0) ⊎ (n < c.args.limit))
+                (sym (get_or-set_other places at i (get_or numbers at 0) 0 other)) (so_far.below i)
+          ];
       others = drop-set-lt (at + 1) places at (get_or numbers at 0) (omega arith)
           ∙ drop_more (at + 1) at places c.args.places.now (omega arith) so_far.others;
     }

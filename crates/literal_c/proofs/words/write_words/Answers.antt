@@ -6,7 +6,7 @@ use Rattle.literal_search.specs.WholeWords.{IsLeftmostAloneBy}
 use Rattle.literal_c.specs.Answers.{MayBeFound, match_of}
 use Rattle.literal_c.specs.Words.{ContinueWordsBy, IsWordPageBy}
 use Rattle.literal_c.specs.declared.LiteralMatch.{LiteralMatch}
-use Rattle.literal_c.proofs.lemmas.Pages.{all_more}
+use Rattle.literal_c.proofs.lemmas.Pages.{all_more, last_written}
 use Rattle.literal_c.proofs.lemmas.Words.{first_by, full_page, last_page, written_on}
 use Rattle.literal_c.proofs.words.write_words.Goals as goal
 
@@ -24,7 +24,7 @@ returns-in_default-clause-page c = λ search is longest.
     (last_page words c.args.haystack.now c.args.sides.now c.args.span c.args.found.now c.loop-place.found
     c.loop-place.place-index
     c.loop-place.page so_far.count so_far.last (omega arith) (omega arith) (so_far.continue search is longest)
-    so_far.others none)
+    so_far.others so_far.ends none)
 
 pub loop-place-preserved : goal.loop-place-preserved
 loop-place-preserved c =
@@ -47,6 +47,7 @@ loop-place-preserved c =
       in_span = grind arith;
       at = grind arith;
       after = grind arith;
+      ends = sym end ∙ sym (last_written c.args.span.start i found new (omega arith));
       before = grind arith;
       continue = λ search is longest.
           let words = words_for search c.args.words.now in
@@ -93,4 +94,4 @@ returns-clause-page c = λ search is longest.
     last_page words c.args.haystack.now c.args.sides.now c.args.span c.args.found.now c.loop-place.found
     c.loop-place.place-index
     c.loop-place.page so_far.count so_far.last (omega arith) (omega arith) (so_far.continue search is longest)
-    so_far.others none
+    so_far.others so_far.ends none

@@ -1,7 +1,7 @@
 use Rattle.std.proofs.Common.{◌≡◌, ◌+◌, ◌≤◌, drop, map, slice_index, take}
 use Rattle.std.specs.List.{All}
 use Rattle.literal_search.specs.PreparedWords.{ForWholeWords}
-use Rattle.literal_c.specs.Answers.{MayBeFound, match_of}
+use Rattle.literal_c.specs.Answers.{MayBeFound, end_of_last, match_of}
 use Rattle.literal_c.specs.Words.{ContinueWordsBy}
 use Rattle.literal_c.proofs.words.write_words.Given as goal
 
@@ -16,6 +16,7 @@ invariant-loop-place l = record {
   in_span : l.matches.matches.span ≡ l.fn.span;
   at : l.matches.matches.at ≡ l.page.next;
   after : l.fn.span.start + l.place-index ≤ l.page.next;
+  ends : l.page.next ≡ end_of_last l.fn.span.start (map match_of (take l.place-index l.found));
   before : l.page.next ≤ l.fn.span.end;
   continue : ForWholeWords l.words (λ w.
       ContinueWordsBy w l.haystack l.sides l.fn.span (map match_of (take l.place-index l.found)) l.page.next);

@@ -1,6 +1,6 @@
 use Rattle.std.proofs.Common.{◌+◌, ◌∷◌, [], ◌++◌, ◌∙◌, ap, refl, sym, subst, length, arith}
 use Rattle.std.proofs.lemmas.List.{length_push}
-use Rattle.literal_search.specs.SearchValue.{ScansListAtMost}
+use Rattle.literal_search.proofs.lemmas.Callers.{scans_whole}
 use Rattle.literal_examples.proofs.counts.count_scanned.Goals as goal
 
 pub loop-count-preserved : goal.loop-count-preserved
@@ -38,25 +38,19 @@ returns-clause-count c =
 pub returns-clause-least : goal.returns-clause-least
 returns-clause-least c =
     let run = c.loop-count.invariant.run in
-    let each = (c.iterations_scan_at_most.ensures.whole _ _ _ run.0 refl refl run.1
+    let each = c.iterations_scan_at_most.ensures.each _ _ _ run.0 run.1
     (record {
       gives = c.in_default.ensures.gives;
       scans = c.in_default.ensures.scans;
-    })).0 in
+    }) in
     omega (arith, each)
 
 pub returns-clause-bounded : goal.returns-clause-bounded
 returns-clause-bounded c =
     let run = c.loop-count.invariant.run in
-    let scans = (c.iterations_scan_at_most.ensures.whole _ _ _ run.0 refl refl run.1
+    scans_whole c.args.search.now.query.patterns c.args.text.now c.args.tally.now c.next_counted.new.tally
+    (c.iterations_scan_at_most.ensures.bounded _ _ _ run.0 run.1
     (record {
       gives = c.in_default.ensures.gives;
       scans = c.in_default.ensures.scans;
-    })).1 in
-    subst (λ n. ScansListAtMost c.args.search.now.query.patterns (length c.args.text.now) n c.args.tally.now
-    c.next_counted.new.tally) (sym run.2)
-    (record {
-      others = scans.others;
-      short = λ short. omega (arith, scans.short short);
-      long = omega (arith, scans.long);
-    })
+    }))

@@ -3,7 +3,7 @@ use Rattle.std.proofs.Common.{refl, subst, sym}
 use Rattle.std.proofs.lemmas.List.{length_push}
 use Rattle.literal_base.specs.MatchValue.{MatchValue}
 use Rattle.literal_search.specs.SearchValue.{longest_of}
-use Rattle.literal_search.proofs.lemmas.Iterations.{scanned_on}
+use Rattle.literal_search.proofs.lemmas.Callers.{scanned_on}
 use Rattle.literal_examples.specs.Lexed.{IsLexed}
 use Rattle.literal_examples.proofs.lexer.lex.Goals as goal
 

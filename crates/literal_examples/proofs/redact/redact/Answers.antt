@@ -5,7 +5,7 @@ use Rattle.std.proofs.lemmas.List.{length-replicate}
 use Rattle.literal_base.specs.Greedy.{IsGreedy}
 use Rattle.literal_base.specs.MatchValue.{MatchValue}
 use Rattle.literal_search.proofs.lemmas.Callers.{written_by_calls}
-use Rattle.literal_search.proofs.lemmas.Prepared.{length_part}
+use Rattle.literal_search.proofs.lemmas.Callers.{length_part}
 use Rattle.literal_search.specs.SearchValue.{SearchValue}
 use Rattle.literal_examples.specs.Redacted.{redacted}
 use Rattle.literal_examples.proofs.redact.redact.Goals as goal

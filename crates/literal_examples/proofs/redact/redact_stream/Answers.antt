@@ -12,7 +12,7 @@ use Rattle.literal_search.specs.declared.replace_stream.ReplaceStreamError.{Repl
 use Rattle.literal_search.specs.declared.replace_stream.ReplaceStreamError.TheVariants.{NotOneForEach, OutOfMemory}
 use Rattle.literal_search.specs.declared.replace_stream.ReplaceStreamError.TheVariants.{ReadFailed, WriteFailed}
 use Rattle.literal_examples.specs.Redacted.{Redacts, StopsRedacting}
-use Rattle.literal_search.proofs.lemmas.Prepared.{length_part}
+use Rattle.literal_search.proofs.lemmas.Callers.{length_part}
 use Rattle.literal_search.proofs.lemmas.RewrittenBy.{all_written, greedy_begins, part_written}
 use Rattle.literal_examples.proofs.redact.redact_stream.Goals as goal
 

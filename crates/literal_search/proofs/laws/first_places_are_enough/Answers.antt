@@ -1,10 +1,12 @@
 -- The first entries of an array that is prepared. For the laws.
-use Rattle.std.proofs.Common.{◌≡◌, ℕ, ◌+◌, ◌-◌, ◌<◌, ◌≤◌, List, get_or, length, take, sym, arith}
+use Rattle.std.proofs.Common.{◌≡◌, ◌==◌, ℕ, ◌+◌, ◌-◌, ◌<◌, ◌≤◌, List, ap, get_or, if◌then◌else◌, length, take, sym}
+use Rattle.std.proofs.Common.{arith}
 use Rattle.std.proofs.lemmas.List.{drop-take, get_or-take, length-take, take-take}
 use Rattle.std.specs.List.{slice_range}
 use Rattle.literal_search.specs.SearchValue.{SearchValue}
 use Rattle.literal_search.specs.Overlapping.{OverlappingValue}
-use Rattle.literal_search.specs.Prepared.{IsPrepared, prepared_len, rows_end}
+use Rattle.literal_base.specs.declared.packed.MatchKind.TheVariants.{LeftmostFirst, LeftmostLongest}
+use Rattle.literal_search.specs.Prepared.{IsPrepared, kind_in, prepared_len, rows_end}
 use Rattle.literal_search.specs.PreparedOverlapping.{IsPreparedOverlapping, ends_at, overlapping_len}
 use Rattle.literal_search.proofs.lemmas.BackTables.{same_tables as same_back}
 use Rattle.literal_search.proofs.laws.first_places_are_enough.Goals as goal
@@ -18,12 +20,15 @@ part_of_first n numbers from to ordered inside =
 
 -- an array that has the same numbers as one that is prepared, as far as these go
 module _ (search : SearchValue) (old new : List ℕ)
-    (same : (k : ℕ) → k < 6 → get_or new k 0 ≡ get_or old k 0)
+    (same : (k : ℕ) → k < 7 → get_or new k 0 ≡ get_or old k 0)
     (parts : (from to : ℕ) → from ≤ to → to ≤ prepared_len old → slice_range new from to ≡ slice_range old from to)
     (fits : prepared_len old ≤ length new)
   where
+    kind_is : kind_in new ≡ kind_in old
+    kind_is = ap (λ n. if n == 0 then LeftmostFirst else LeftmostLongest) (same 6 (omega arith))
+
     prepared_as : IsPrepared search old → IsPrepared search new
-    prepared_as prepared = grind (arith, same_back)
+    prepared_as prepared = grind (arith, kind_is, same_back)
 
 module _ (search : SearchValue) (numbers : List ℕ) (n : ℕ) where
   -- what is prepared in the first entries is so in all

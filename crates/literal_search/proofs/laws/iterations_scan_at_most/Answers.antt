@@ -1,21 +1,14 @@
 use Rattle.std.proofs.iter.Next.{Yields-more}
 use Rattle.literal_search.specs.MatchesValue.{GivesCounted}
 use Rattle.literal_search.proofs.lemmas.Callers.{greedy_from_yields}
-use Rattle.literal_search.proofs.lemmas.Iterations.{gives_from_counted, scans_each_from_yields, scans_whole_from_yields}
-use Rattle.literal_search.proofs.lemmas.Iterations.{scans_thrice_from_yields}
+use Rattle.literal_search.proofs.lemmas.Iterations.{gives_from_counted, scans_each_from_yields, scans_rest_from_yields}
 use Rattle.literal_search.proofs.laws.iterations_scan_at_most.Goals as goal
 
 pub returns-clause-bounded : goal.returns-clause-bounded
-returns-clause-bounded c = λ first last ended all short run nothing.
-    scans_thrice_from_yields first all last ended short run nothing
+returns-clause-bounded c = λ first last ended all run nothing. scans_rest_from_yields first all last ended run nothing
 
 pub returns-clause-each : goal.returns-clause-each
-returns-clause-each c = λ first last ended all short run nothing.
-    scans_each_from_yields first all last ended short run nothing
-
-pub returns-clause-whole : goal.returns-clause-whole
-returns-clause-whole c = λ first last ended all at known run nothing.
-    scans_whole_from_yields first all last ended at known run nothing
+returns-clause-each c = λ first last ended all run nothing. scans_each_from_yields first all last ended run nothing
 
 pub returns-clause-greedy : goal.returns-clause-greedy
 returns-clause-greedy c = λ first last ended all run nothing.

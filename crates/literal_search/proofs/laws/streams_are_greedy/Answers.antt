@@ -1,5 +1,5 @@
 use Rattle.std.proofs.Common.{◌≡◌, ◌∙◌, ◌∷◌, [], Err, List, None, Ok, Option, Result, Some, ap, arith, map}
-use Rattle.std.proofs.Common.{refl, subst, ℕ}
+use Rattle.std.proofs.Common.{refl, subst, sym, ℕ}
 use Rattle.std.specs.Iterator.{Yields}
 use Rattle.std.specs.declared.io.Error.{Error}
 use Rattle.literal_base.specs.Greedy.{IsGreedy}
@@ -7,7 +7,7 @@ use Rattle.literal_base.specs.MatchValue.{MatchValue}
 use Rattle.literal_search.specs.SearchValue.{SearchValue}
 use Rattle.literal_search.specs.Stream.{GivesAhead, GivesStreamed, IsLeftmostFrom, OccursFrom, StreamValue, stream_of}
 use Rattle.literal_search.specs.Inside.Stream.{GoesThrough}
-use Rattle.literal_search.proofs.lemmas.Streams.{GoesOverAll, streamed_all, streamed_failed, streamed_first}
+use Rattle.literal_search.proofs.lemmas.Streams.{GoesOverAll, read_all, streamed_all, streamed_failed, streamed_first}
 use Rattle.literal_search.proofs.lemmas.Streams.{streamed_len, streamed_to}
 use Rattle.literal_search.proofs.laws.streams_are_greedy.Goals as goal
 
@@ -33,6 +33,12 @@ module _ (search : SearchValue) where
     step_by m (Some (Ok found)) run.0 is run.1,
     steps_by run.0 more n (ap (λ (v : StreamValue). v.search) run.1.2.goes_on ∙ is) run.2,
   )
+
+  kept_by : (m : StreamValue) (all : List MatchValue) (n : StreamValue) → m.search ≡ search
+      → Yields GivesStreamed m (map Ok all) n → n.search ≡ search
+  kept_by m [] n is run = ap (λ (v : StreamValue). v.search) (sym run) ∙ is
+  kept_by m (found ∷ more) n is run =
+      kept_by run.0 more n (ap (λ (v : StreamValue). v.search) run.1.2.goes_on ∙ is) run.2
 
   -- at first it is a prefix of the text
   at_the_start : (bytes : List ℕ) → In bytes (stream_of search (Some bytes))
@@ -69,3 +75,11 @@ returns-clause-failed c = λ search bytes last ended all error run fails i offse
       streamed_failed _ _ 0 search bytes last error ended there
           (step_by search last (Some (Err error)) ended there.search_is fails) i offset occurs,
     )
+
+pub returns-clause-all_read : goal.returns-clause-all_read
+returns-clause-all_read c = λ search unread last ended all run ends.
+    let is : last.search ≡ search = kept_by search (stream_of search unread) all last refl run in
+    let read = read_all (IsLeftmostFrom search) (OccursFrom search) 0 (IsGreedy search.query search.ignore_case)
+    (over_all search) (stream_of search unread) all last ended refl (steps_by search _ all last refl run)
+    (step_by search last None ended is ends) in
+    (read.piece, read.reads, omega (arith, read.len), read.are_all [] refl)

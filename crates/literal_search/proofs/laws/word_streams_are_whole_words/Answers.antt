@@ -9,7 +9,7 @@ use Rattle.literal_search.specs.Stream.{GivesAhead, GivesWordStreamed, IsFirstWo
 use Rattle.literal_search.specs.Stream.{WordStreamValue, stream_of, word_stream_of}
 use Rattle.literal_search.specs.WholeWords.{AreWholeWords, WholeWordsValue}
 use Rattle.literal_search.specs.Inside.Stream.{GoesThrough}
-use Rattle.literal_search.proofs.lemmas.Streams.{GoesOverAll, streamed_all, streamed_failed, streamed_first}
+use Rattle.literal_search.proofs.lemmas.Streams.{GoesOverAll, read_all, streamed_all, streamed_failed, streamed_first}
 use Rattle.literal_search.proofs.lemmas.Streams.{streamed_len, streamed_to}
 use Rattle.literal_search.proofs.laws.word_streams_are_whole_words.Goals as goal
 
@@ -87,3 +87,11 @@ returns-clause-failed c = λ words bytes last ended all error run fails i offset
       streamed_failed _ _ 1 words.search bytes last.stream error ended.stream (then_there words bytes all last run)
           (step_by words last (Some (Err error)) ended (all_steps words bytes all last run).1 fails) i offset occurs,
     )
+
+pub returns-clause-all_read : goal.returns-clause-all_read
+returns-clause-all_read c = λ words unread last ended all run ends.
+    let steps = steps_by words (word_stream_of words unread) all last (refl, refl) run in
+    let read = read_all (IsFirstWordFrom words) (OccursAloneFrom words) 1
+    (λ text at. AreWholeWords words text (rest_from text at)) (over_all words) (stream_of words.search unread) all
+    last.stream ended.stream refl steps.0 (step_by words last None ended steps.1 ends) in
+    (read.piece, read.reads, omega (arith, read.len), read.are_all [] refl)

@@ -4,7 +4,7 @@ use Rattle.std.proofs.lemmas.Iterator.Adapters.{YieldsList-from_vec}
 use Rattle.std.proofs.lemmas.List.{length-map, map-id}
 use Rattle.std.proofs.lemmas.Simd.{map-map}
 use Rattle.std.specs.Global.{Vec}
-use Rattle.literal_search.specs.Inside.Prepared.{checked}
+use Rattle.literal_search.specs.Inside.Prepared.{checked, kind_number, version_for}
 use Rattle.literal_search.specs.Inside.Rows.{packed_classes}
 use Rattle.literal_search.specs.Prepared.{check_of}
 use Rattle.literal_search.specs.SearchValue.{longest_of}
@@ -42,9 +42,11 @@ returns c =
     let starts = c.args.starts.now in
     let behind = c.args.ends.now ++ c.args.prints.now in
     let width = c.args.classes.now.width in
+    let version = version_for c.args.kind in
+    let kind = kind_number c.args.kind in
     let body = λ (n rows_len : ℕ) (l : List ℕ).
-    checked c.args.version (width ∷ n ∷ rows_len ∷ longest_of bytes ∷ l ++ (rows ++ classes) ++ starts ++ behind) in
-    assembled c.args.version width (length patterns) c.len.result (longest_of bytes) c.check_over.result lengths rows
+    checked version (width ∷ n ∷ rows_len ∷ longest_of bytes ∷ kind ∷ l ++ (rows ++ classes) ++ starts ++ behind) in
+    assembled version width (length patterns) c.len.result (longest_of bytes) kind c.check_over.result lengths rows
     classes starts c.args.ends.now c.args.prints.now c.shrink_to_fit.new.self.items
     (all ∙ ap (λ l. ((((l ++ rows) ++ classes) ++ starts) ++ c.args.ends.now) ++ c.args.prints.now)
     c.in_ok-header.ensures)

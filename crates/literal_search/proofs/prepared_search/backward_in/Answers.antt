@@ -4,6 +4,8 @@ use Rattle.literal_search.specs.Inside.Packed.{unpacked}
 use Rattle.literal_search.specs.Inside.Prepared.{IsHeader}
 use Rattle.literal_search.specs.Prepared.{HasParts, classes_end, classes_in, lengths_in, longest_in, rows_in, width_in}
 use Rattle.literal_search.specs.Prepared.{AreBackTables, ArePrints, BackTables, HasAllParts, prints_in}
+use Rattle.literal_search.specs.Prepared.{back_tables_in, links_end, links_in, texts_back}
+use Rattle.literal_search.specs.Links.{AreLinks}
 use Rattle.literal_search.specs.SearchValue.{SearchValue}
 use Rattle.literal_search.specs.declared.prepared.Header.{Header}
 use Rattle.literal_search.specs.declared.prepared.TheConstants.{PREPARED_VERSION}
@@ -14,18 +16,26 @@ use Rattle.literal_search.proofs.prepared_search.backward_in.Goals as goal
 
 -- where the classes end, by the parts
 abbrev end : Header → ℕ
-end f = 6 + length f.lengths.now + length f.rows.now
+end f = 7 + length f.lengths.now + length f.rows.now
 
 module _ (f : Header) (numbers : List ℕ) (same : f.numbers.now ≡ numbers) (header : IsHeader PREPARED_VERSION f) where
   known : (end f ≡ classes_end numbers) × (length f.lengths.now ≡ get_or numbers 3 0)
   known = parts_end f numbers same header
 
-  has_parts : HasParts PREPARED_VERSION numbers → end f + 40 ≤ length numbers
+  has_parts : HasParts PREPARED_VERSION numbers → end f + length f.lengths.now + 40 ≤ length numbers
       → length f.rows.now ≢ 256 → HasAllParts f.numbers.now
   has_parts parts long some = grind (arith, known, parts_end)
 
-  prints_are : slice_range numbers (end f) (end f + 40) ≡ prints_in numbers
-  prints_are = ap (λ k. slice_range numbers k (k + 40)) known.0
+  links_last : end f + length f.lengths.now ≡ links_end numbers
+  links_last = omega (arith, known.0, known.1)
+
+  links_are : slice_range numbers (end f) (end f + length f.lengths.now) ≡ links_in numbers
+  links_are = ap (λ k. slice_range numbers k (k + length f.lengths.now)) known.0
+      ∙ ap (λ n. slice_range numbers (classes_end numbers) (classes_end numbers + n)) known.1
+
+  prints_are : slice_range numbers (end f + length f.lengths.now) (end f + length f.lengths.now + 40)
+      ≡ prints_in numbers
+  prints_are = ap (λ k. slice_range numbers k (k + 40)) links_last
 
 pub returns : goal.returns
 returns c =
@@ -36,6 +46,7 @@ returns c =
     let known = parts_end f numbers told.0 header in
     let parts = subst HasAllParts told.0
     (has_parts f numbers told.0 header told.1 c.if-is_short.false c.if-header-eq-CLASSES_LEN.false) in
+    let links_is = links_are f numbers told.0 header in
     let prints_is = prints_are f numbers told.0 header in
     let tables = λ (search : SearchValue). same_tables search _ (classes_in numbers) _ (width_in numbers) _
     (rows_in numbers) _ (longest_in numbers)
@@ -47,6 +58,12 @@ returns c =
       is_for = λ search is. record {
         tables = subst (λ (t : BackTables). AreBackTables t) (sym (tables search)) is.tables;
         lens = header.lengths_are ∙ (ap lengths_in told.0 ∙ is.lengths);
+        links = λ longest.
+            subst (λ (t : BackTables). AreLinks (texts_back t)
+            (slice_range numbers (end f) (end f + length f.lengths.now)) (length search.query.patterns))
+            (sym (tables search))
+            (subst (λ (l : List ℕ). AreLinks (texts_back (back_tables_in search numbers)) l
+            (length search.query.patterns)) (sym links_is) (is.links longest));
         prints = subst (ArePrints search.query.patterns search.ignore_case) (sym prints_is) is.prints;
       };
       tables = tables;

@@ -1,7 +1,9 @@
 -- A text that is read piece by piece, and written with its matches rewritten.
-use Rattle.std.proofs.Common.{◌≡◌, ℕ, ◌-◌, ◌++◌, [], IfErr, List, None, Option, Result, ap, arith, drop}
+use Rattle.std.proofs.Common.{◌≡◌, ℕ, ◌-◌, ◌<◌, ◌≤◌, ◌^◌, ◌++◌, [], inl, inr, IfErr, List, None, Option, Result, ap}
+use Rattle.std.proofs.Common.{arith, drop}
 use Rattle.std.proofs.Common.{eqb-true, of_calls, subst, sym, true, ◌∙◌}
 use Rattle.std.proofs.KnownBytes.{Consumes-trans}
+use Rattle.std.proofs.lemmas.Bool.{cases_lt}
 use Rattle.std.proofs.lemmas.List.{length-drop}
 use Rattle.std.proofs.lemmas.Option.{none-some}
 use Rattle.std.specs.Bool.{⊤}
@@ -13,13 +15,14 @@ use Rattle.std.specs.declared.io.ErrorKind.{ErrorKind}
 use Rattle.literal_base.specs.MatchValue.{MatchValue}
 use Rattle.literal_search.specs.ReplacedStream.{StopsRewritingOf}
 use Rattle.literal_search.specs.Inside.Rewriting.{IsOfFailure}
-use Rattle.literal_search.specs.Inside.Stream.{AnswersAhead, held, kept_back, margin_of, reach_of}
+use Rattle.literal_search.specs.Inside.Stream.{AnswersAhead, IsSearchIn, held, kept_back, margin_of, reach_of}
 use Rattle.literal_search.specs.declared.replace_stream.ReplaceStreamError.{ReplaceStreamError}
 use Rattle.literal_search.specs.declared.stream.SoFar.TheVariants.{NoneBefore}
 use Rattle.literal_search.proofs.lemmas.Rewritten.{all_rewritten, none_rewritten, turn_matched, turn_passed}
 use Rattle.literal_search.proofs.replace_stream.rewrite.Goals.{in-Found+in_ok-put-in-Found+in_ok-after_write-in-Found}
 use Rattle.literal_search.proofs.replace_stream.rewrite.Goals.{in-NoneBefore+in_ok-put-in-NoneBefore}
-use Rattle.literal_search.proofs.lemmas.Streams.{read_whole}
+use Rattle.literal_search.proofs.lemmas.Sought.{search_stays}
+use Rattle.literal_search.proofs.lemmas.Streams.{held_fits, read_whole}
 use Rattle.literal_search.proofs.replace_stream.rewrite.Goals as goal
 
 -- a write or a call that fails ends it
@@ -84,6 +87,15 @@ loop-is_over-preserved g c =
     record {
       sound = grind arith;
       held_from = rw margin_is at c.hold_from.ensures.from;
+      search = search_stays c.args.sought v c.hold_from.new.self to c.next_known.new.ahead
+          c.hold_from.ensures.block c.hold_from.ensures.begins (elim c.match-next_known.branch [
+            | in-Found+in_ok-put-in-Found+in_ok-after_write-in-Found w ↦
+                let there : w.in-Found.found.end ≡ to = sym (w.to-is ∙ w.end-to.ensures.end) in
+                subst (λ (n : ℕ). IsSearchIn c.args.sought v n c.next_known.new.ahead) there w.in-Found.ensures.search
+            | in-NoneBefore+in_ok-put-in-NoneBefore w ↦
+                subst (λ (n : ℕ). IsSearchIn c.args.sought v n c.next_known.new.ahead) (sym w.to-is)
+                w.in-NoneBefore.ensures.search
+          ]);
       rewritten = elim c.match-next_known.branch [
         | in-Found+in_ok-put-in-Found+in_ok-after_write-in-Found w ↦
             let first = w.in-Found.ensures in
@@ -115,9 +127,30 @@ loop-is_over-preserved g c =
             (subst (λ (n : ℕ). (more : List ℕ) → (is ≡ true → more ≡ [])
             → AnswersAhead c.args.sought at (held v ++ more) (NoneBefore n)) (sym to_is) none.answers) (grind arith)
       ];
-      callable = search of_calls;
+      callable = elim c.match-next_known.branch [
+        | in-Found+in_ok-put-in-Found+in_ok-after_write-in-Found w ↦
+            search (of_calls, so_far.callable, w.replace-answer.ensures, w.replace-is)
+        | in-NoneBefore+in_ok-put-in-NoneBefore w ↦ search (of_calls, so_far.callable, w.replace-is)
+      ];
       over = grind (arith, eqb-true, length-drop);
     }
+
+pub loop-is_over-smaller : goal.loop-is_over-smaller
+loop-is_over-smaller g c =
+    let at = c.loop-is_over.at in
+    let to = c.match-next_known.to in
+    let later : at ≤ to = elim c.match-next_known.branch [
+      | in-Found+in_ok-put-in-Found+in_ok-after_write-in-Found w ↦
+          omega (arith, w.in-Found.ensures.known.0, w.in-Found.ensures.known.1, w.end-to.ensures.end, w.to-is)
+      | in-NoneBefore+in_ok-put-in-NoneBefore w ↦ omega (arith, w.in-NoneBefore.ensures.known, w.to-is)
+    ] in
+    let before = c.next_known.ensures.held.reach in
+    let fits : at < 2 ^ 64 = omega (arith, before, held_fits c.next_known.new.window c.next_known.ensures.sound.window)
+    in
+    elim (cases_lt at to) [
+      | inl on ↦ grind (arith, c.loop-is_over-test.true)
+      | inr stays ↦ let same : to ≡ at = omega (arith, later, stays) in grind (arith, c.loop-is_over-test.true)
+    ]
 
 pub returns-clause-ok : goal.returns-clause-ok
 returns-clause-ok g c =

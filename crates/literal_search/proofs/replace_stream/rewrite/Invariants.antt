@@ -1,14 +1,15 @@
 use Rattle.std.proofs.Common.{◌≡◌, ◌+◌, ◌-◌, ◌^◌, ◌≤◌, cond, length, true}
 use Rattle.literal_base.specs.Occurs.{NoneIsEmpty}
 use Rattle.literal_search.specs.Inside.Rewriting.{HasRewritten}
-use Rattle.literal_search.specs.Inside.Stream.{AreHeldFrom, IsOpen, IsSoundStream, held, kept_back, margin_of, reach_of}
-use Rattle.literal_search.specs.Inside.Stream.{search_of}
+use Rattle.literal_search.specs.Inside.Stream.{AreHeldFrom, IsOpen, IsSearchIn, IsSoundStream, held, kept_back}
+use Rattle.literal_search.specs.Inside.Stream.{margin_of, reach_of, search_of}
 use Rattle.literal_search.proofs.replace_stream.rewrite.Given as goal
 
 abbrev pub invariant-loop-is_over : goal.invariant-loop-is_over
 invariant-loop-is_over g l = record {
   sound : IsSoundStream (reach_of l.sought) l.window l.reading (g.R.Read.remaining l.reader);
   held_from : AreHeldFrom (margin_of l.sought) l.at l.window;
+  search : IsSearchIn l.sought l.window l.at l.ahead;
   rewritten : HasRewritten g.W.Write.contents (goal.F-step g) l.sought l.reading.is_whole l.at (held l.window)
       (g.R.Read.remaining l.fn.reader) (g.R.Read.remaining l.reader) l.fn.replace (g.W.Write.contents l.fn.writer)
       l.replace (g.W.Write.contents l.writer);

@@ -1,11 +1,17 @@
-use Rattle.std.proofs.Common.{◌∙◌, ℕ, List, [], arith, map, refl, subst, sym}
+use Rattle.std.proofs.Common.{Some, ◌≡◌, ◌∙◌, ◌++◌, ℕ, List, [], ap, arith, length, map, refl, subst, sym}
 use Rattle.std.proofs.lemmas.Bool.{eqb-true}
-use Rattle.std.proofs.lemmas.List.{nil_from_length}
+use Rattle.std.proofs.lemmas.List.{length-map, nil_from_length}
 use Rattle.std.specs.Global.{Vec}
 use Rattle.literal_search.specs.Inside.Search.{AreKept}
-use Rattle.literal_search.specs.Prepared.{AreBackTables, BackTables}
+use Rattle.literal_base.specs.declared.packed.MatchKind.TheVariants.{LeftmostLongest}
+use Rattle.literal_search.specs.Inside.Classes.{symbols_in}
+use Rattle.literal_search.specs.Inside.Prepared.{kind_number, numbers_for}
+use Rattle.literal_search.specs.declared.prepared.TheConstants.{PREPARED_VERSION}
+use Rattle.literal_search.specs.Links.{AreLinks}
+use Rattle.literal_search.specs.SearchValue.{reversed, unshadowed}
+use Rattle.literal_search.specs.Prepared.{AreBackTables, BackTables, texts_back}
 use Rattle.literal_search.specs.SearchValue.{NeedFewReversed, NeedTooManyReversed, longest_of, search_by}
-use Rattle.literal_search.proofs.lemmas.BackTables.{kept_all, short_by}
+use Rattle.literal_search.proofs.lemmas.BackTables.{kept_all, links_between, short_by}
 use Rattle.literal_search.proofs.lemmas.Built.{holds_in, passed_on}
 use Rattle.literal_search.proofs.lemmas.NoPattern.{none_are_kept, none_need_few_states}
 use Rattle.literal_search.proofs.search.numbers_of.Goals as goal
@@ -57,5 +63,17 @@ returns-clause-kept c =
       kept = c.requires;
     } in
     let prints = c.prints_for-prints.result in
-    subst (AreKept t.search) (sym c.in_ok-numbers.ensures) (kept_all t are prints (omega arith)
+    let kind = kind_number (Some c.args.kind) in
+    let links = c.in_ok-links.links.items in
+    let count = length-map c.args.patterns.now (λ (pattern : Vec ℕ). pattern.items) in
+    let lent = c.deref-2.ensures.value in
+    let linked : c.args.kind ≡ LeftmostLongest → AreLinks (texts_back t) links (length patterns) =
+    λ longest. subst (λ (words : List (List ℕ)). AreLinks words links (length patterns))
+    (ap (λ k. reversed (unshadowed k (map (symbols_in classes.table) patterns))) (sym longest))
+    (subst (AreLinks (reversed (map (symbols_in classes.table) patterns)) links) (sym count)
+    (c.in_ok-links.ensures.links longest)) in
+    subst (AreKept t.search) (sym (c.in_ok-numbers.ensures
+    ∙ (ap (λ (l : List ℕ). numbers_for PREPARED_VERSION kind classes.table classes.width patterns rows [] (l ++ prints))
+    lent ∙ links_between PREPARED_VERSION kind classes.table classes.width patterns rows links prints)))
+    (kept_all t are links (c.in_ok-links.ensures.long ∙ sym count) linked prints (omega arith)
     c.prints_for-prints.ensures c.classes_for-classes.ensures.width c.in_ok-rows.ensures.rows.states)

@@ -4,8 +4,8 @@ use Rattle.literal_search.proofs.stream.first_known.Goals as goal
 
 pub returns-then-not-is_whole-clause-answers : goal.returns-then-not-is_whole-clause-answers
 returns-then-not-is_whole-clause-answers c = λ more over.
-    known_follows c.args.sought c.args.haystack.now more c.args.from c.args.reach c.find_in-found.result
-    c.so_far.result c.requires.reach c.find_in-found.ensures.first c.so_far.ensures.told c.so_far.ensures.known
+    known_follows c.args.sought c.args.haystack.now more c.args.from c.args.reach c.next_in-found.result
+    c.so_far.result c.requires.reach c.next_in-found.ensures.first c.so_far.ensures.told c.so_far.ensures.known
     c.so_far.ensures.whatever_follows
 
 pub returns-in-None-clause-answers : goal.returns-in-None-clause-answers

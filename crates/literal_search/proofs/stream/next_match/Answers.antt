@@ -3,18 +3,18 @@ use Rattle.std.proofs.Common.{false, length, length-append, refl, subst, sym, tr
 use Rattle.std.proofs.Math.Seq.{drop-length}
 use Rattle.std.specs.IoError.{error_kind}
 use Rattle.literal_search.specs.SearchValue.{longest_of}
-use Rattle.literal_search.specs.Stream.{known}
 use Rattle.literal_search.specs.Inside.Stream.{Begins, IsFirst, held, kept_back, margin_of, reach_of, search_of}
 use Rattle.literal_search.specs.Inside.Stream.{stream_value}
-use Rattle.literal_search.proofs.lemmas.Sought.{goes_from, nothing_last}
+use Rattle.literal_search.proofs.lemmas.Sought.{goes_from, nothing_last, search_stays}
 use Rattle.literal_search.proofs.lemmas.Streams.{ends_failed, ends_whole, goes_behind, gone_nowhere, gone_on, gone_past}
-use Rattle.literal_search.proofs.lemmas.Streams.{held_fits, known_end, read_in_part, read_whole}
+use Rattle.literal_search.proofs.lemmas.Streams.{held_fits, read_in_part, read_whole}
 use Rattle.literal_search.proofs.stream.next_match.Goals as goal
 
 pub loop-found-init : goal.loop-found-init
 loop-found-init g c = record {
   sound = c.requires.sound;
   held = c.requires.held;
+  search = c.requires.search;
   gone = grind (arith, goes_from, gone_nowhere);
 }
 
@@ -40,7 +40,7 @@ returns-in-Found-clause-gives g c =
     (stream_value search c.hold_from.new.self c.end.result s left false)
     (gone_on (IsFirst sought) (Begins sought) margin (goes_from sought) old search c.loop-found.window v at
     c.loop-found.reading s _ left before.sound.reading one.read before.gone) found
-    (one.answers (known left) (λ is. known_end left (one.sound.reading.whole is)))
+    (λ more over. one.answers more over) one.sound.reading.whole
     (omega (arith, one.known.0, one.known.1)) (omega (arith, one.known.2, begin))
     (omega (arith, one.known.2, held_fits v one.sound.window)) (cc)
 
@@ -66,6 +66,8 @@ loop-found-preserved g c =
     record {
       sound = grind arith;
       held = rw margin_is at c.hold_from-in-NoneBefore.ensures.from;
+      search = search_stays sought v c.hold_from-in-NoneBefore.new.self offset c.next_known.new.ahead
+          c.hold_from-in-NoneBefore.ensures.block c.hold_from-in-NoneBefore.ensures.begins one.search;
       gone = gone_past (IsFirst sought) (Begins sought) margin (goes_from sought) old
           (stream_value search v at s left false)
           (stream_value search c.hold_from-in-NoneBefore.new.self offset s left false) offset
@@ -89,6 +91,7 @@ returns-in-Some-clause-gives g c =
     let left = g.R.Read.remaining c.next_known.new.reader in
     let one = c.in-NoneBefore-2.ensures in
     let failure = c.take_error.ensures.failure in
+    let same = c.take_error.ensures.is_whole in
     let failed : s.failure ≡ Some (error_kind c.in-Some.error) = sym failure ∙ c.in-Some.ensures.error in
     let in_part = read_in_part s.is_whole s.failure s.error (error_kind c.in-Some.error) one.sound.reading.failure
     one.sound.reading.apart failed in
@@ -102,7 +105,8 @@ returns-in-Some-clause-gives g c =
     ends_failed (IsFirst sought) (Begins sought) margin (goes_from sought) old (stream_value search v at s left false)
     (stream_value search c.pass.new.self c.pass.new.self.offset c.take_error.new.self left true)
     (gone_on (IsFirst sought) (Begins sought) margin (goes_from sought) old search c.loop-found.window v at
-    c.loop-found.reading s _ left before.sound.reading one.read before.gone) c.in-Some.error failed
+    c.loop-found.reading s _ left before.sound.reading one.read before.gone) c.in-Some.error one.sound.reading.whole
+    failed
     (λ more prefix is i p begins.
     omega (arith, far, one.answers more (λ over. absurd (cc)) prefix is i p begins)) (cc)
 
@@ -120,6 +124,7 @@ returns-in-None-clause-gives g c =
     let left = g.R.Read.remaining c.next_known.new.reader in
     let one = c.in-NoneBefore-2.ensures in
     let failure = c.take_error.ensures.failure in
+    let same = c.take_error.ensures.is_whole in
     let none : s.failure ≡ None = sym failure ∙ c.in-None.ensures.error in
     let whole = read_whole s.is_whole s.failure s.error one.sound.reading.failure
     (λ more. let is : false ≡ true = c.if-is_open.ensures.1 more in (cc)) none in
@@ -131,7 +136,7 @@ returns-in-None-clause-gives g c =
     ends_whole (IsFirst sought) (Begins sought) margin (goes_from sought) old (stream_value search v at s left false)
     (stream_value search c.pass.new.self c.pass.new.self.offset c.take_error.new.self left true)
     (gone_on (IsFirst sought) (Begins sought) margin (goes_from sought) old search c.loop-found.window v at
-    c.loop-found.reading s _ left before.sound.reading one.read before.gone) (one.sound.reading.whole whole) none
+    c.loop-found.reading s _ left before.sound.reading one.read before.gone) whole (one.sound.reading.whole whole) none
     (λ prefix is. nothing_last sought (prefix ++ held v) at one.not_empty (λ i p begins.
     omega (
       arith,

@@ -5,7 +5,9 @@ use Rattle.std.proofs.lemmas.Result.{on_ok_weaker}
 use Rattle.std.specs.Io.KnownBytes.{Appends}
 use Rattle.literal_base.specs.declared.search.Span.{Span}
 use Rattle.litscan.specs.Asked.{AreMatches}
+use Rattle.litscan.specs.Inside.Asked.{GoesAlong}
 use Rattle.litscan.specs.Printed.{marked_from, printed_match}
+use Rattle.litscan.proofs.lemmas.Asked.{along_first}
 use Rattle.litscan.proofs.printing.print_marked.Goals as goal
 
 -- what is printed up to a match, and that, and what is behind
@@ -18,6 +20,8 @@ loop-found-init g c = record {
   all = [];
   out = [];
   inside = omega arith;
+  along = along_first c.args.search.now c.args.options c.args.line.now c.find_iter-matches.result
+      c.find_iter-matches.ensures;
   goes_on = λ more are. are;
   written = Appends-nil _;
   marked = λ more. refl;
@@ -47,6 +51,8 @@ loop-found-preserved g c =
       all = so_far.all ++ found ∷ [];
       out = (so_far.out ++ before) ++ shown;
       inside = omega (arith, c.end-from.ensures.end, first.whole, first.occurs.occurs.before_end);
+      along = subst (λ at. GoesAlong search options line at c.next_of.new.matches) (sym c.end-from.ensures.end)
+          c.in-Some.ensures.along;
       goes_on = λ more are.
           subst (AreMatches search options line 0) (sym (append_assoc so_far.all (found ∷ []) more))
           (so_far.goes_on (found ∷ more) (

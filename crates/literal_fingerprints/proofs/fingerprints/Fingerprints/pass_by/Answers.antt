@@ -72,7 +72,7 @@ returns-clause-passed c =
     let place : at - 16 + 16 ≡ at = omega (arith, before.low, c.requires.after) in
     let here = lanes_of_half _ _ _ before.before c.back_half-bytes.ensures in
     let far : start ≤ at - 16 = omega (arith, before.low, c.requires.after) in
-    let looked = c.look_up.ensures c.args.self.now cut start (at - 16) c.tables.ensures.tables far here in
+    let looked = c.look_up.ensures c.args.self.now cut start (at - 16) c.tables.ensures far here in
     record {
       within = omega arith;
       none = before.none;

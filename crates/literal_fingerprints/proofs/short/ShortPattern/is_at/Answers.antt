@@ -1,5 +1,5 @@
 use Rattle.std.proofs.Common.{◌≡◌, ◌+◌, ◌-◌, ◌<◌, ◌≤◌, ◌∙◌, ap, arith, bit_xor, drop, get_or, inl, inr, length}
-use Rattle.std.proofs.Common.{List, subst, sym, ℕ}
+use Rattle.std.proofs.Common.{List, rules, subst, sym, take, ℕ}
 use Rattle.std.proofs.lemmas.Bool.{cases_lt}
 use Rattle.std.proofs.lemmas.Bool.Decides.{nat_tests}
 use Rattle.std.proofs.lemmas.List.{ext_get_or, get_or-drop, get_or-take, length-drop, length-take}
@@ -13,43 +13,50 @@ equal a b none =
     ∙ (ap (bit_xor a) (sym (xor_self b)) ∙ (sym (xor_assoc a b b) ∙ (ap (λ x. bit_xor x b) none ∙ xor_zero_l b)))
 
 pub returns-clause-stands : goal.returns-clause-stands
-returns-clause-stands c pattern is =
+returns-clause-stands c =
     let haystack = c.args.haystack.now in
     let at = c.args.at in
     let bytes = c.args.self.now.bytes in
     let len = c.args.self.now.len in
     let zeros = c.zeros_before.result in
+    let pattern : List ℕ = take len bytes in
+    let all : length bytes ≡ 16 = search rules in
     let part = slice_range haystack at (at + len) in
-    let long : length part ≡ len =
-    let dropped = length-drop at haystack in
-    omega (arith, length-take (at + len - at) (drop at haystack), dropped, is.few, is.len, c.requires) in
-    let here : (k : ℕ) → k < len → get_or part k 0 ≡ get_or c.load-here.result k 0 =
-    λ k below.
+    let whole : len ≤ 16 → at + len ≡ at + length pattern =
+    λ few. omega (arith, few, all, length-take len bytes) in
+    let long : len ≤ 16 → length part ≡ len =
+    λ few. omega (arith, few, length-take (at + len - at) (drop at haystack), length-drop at haystack, c.requires) in
+    let here : len ≤ 16 → (k : ℕ) → k < len → get_or part k 0 ≡ get_or c.load-here.result k 0 =
+    λ few k below.
     get_or-take (at + len - at) (drop at haystack) k 0 (omega (arith, below))
-    ∙ (get_or-drop at haystack k 0 ∙ sym (c.load-here.ensures.lanes.each k (omega (arith, below, is.few, is.len)))) in
+    ∙ (get_or-drop at haystack k 0 ∙ sym (c.load-here.ensures.lanes.each k (omega (arith, below, few)))) in
     let own : (k : ℕ) → k < len → get_or pattern k 0 ≡ get_or bytes k 0 =
-    λ k below. ap (λ l. get_or l k 0) (sym is.same) ∙ get_or-take len bytes k 0 below in
-    let whole : at + len ≡ at + length pattern = omega (arith, is.len) in (
+    λ k below. get_or-take len bytes k 0 below in (
       λ told.
-          let few : len ≤ zeros = grind (arith, nat_tests, told) in
+          let upto : len ≤ zeros = grind (arith, nat_tests, told) in
+          let few : len ≤ 16 = omega (arith, upto, c.zeros_before.ensures.few) in
           let same : part ≡ pattern =
-          ext_get_or 0 part pattern (long ∙ is.len)
+          ext_get_or 0 part pattern (omega (arith, long few, whole few))
           (λ k below.
-          let low : k < len = omega (arith, below, long) in
-          here k low
-          ∙ (equal _ _ (sym (c.differing.ensures.each k (omega (arith, low, is.few, is.len)))
-          ∙ c.zeros_before.ensures.zero k (omega (arith, low, few))) ∙ sym (own k low))) in
-          record {
-            fits = omega (arith, c.requires, is.few);
-            same = subst (λ n. slice_range haystack at n ≡ pattern) whole same;
-          },
+          let low : k < len = omega (arith, below, long few) in
+          here few k low
+          ∙ (equal _ _ (sym (c.differing.ensures.each k (omega (arith, low, few)))
+          ∙ c.zeros_before.ensures.zero k (omega (arith, low, upto))) ∙ sym (own k low))) in (
+            few,
+            record {
+              fits = omega (arith, c.requires, few, whole few);
+              same = subst (λ n. slice_range haystack at n ≡ pattern) (whole few) same;
+            },
+          ),
       λ stands. elim (cases_lt zeros len) [
         | inl before ↦
-            let same : part ≡ pattern = subst (λ n. slice_range haystack at n ≡ pattern) (sym whole) stands.same in
+            let few = stands.0 in
+            let same : part ≡ pattern =
+            subst (λ n. slice_range haystack at n ≡ pattern) (sym (whole few)) stands.1.same in
             let lane : get_or c.load-here.result zeros 0 ≡ get_or bytes zeros 0 =
-            sym (here zeros before) ∙ (ap (λ (l : List ℕ). get_or l zeros 0) same ∙ own zeros before) in
-            absurd (c.zeros_before.ensures.stops (omega (arith, before, is.few, is.len))
-            (c.differing.ensures.each zeros (omega (arith, before, is.few, is.len))
+            sym (here few zeros before) ∙ (ap (λ (l : List ℕ). get_or l zeros 0) same ∙ own zeros before) in
+            absurd (c.zeros_before.ensures.stops (omega (arith, before, few))
+            (c.differing.ensures.each zeros (omega (arith, before, few))
             ∙ (ap (λ n. bit_xor n (get_or bytes zeros 0)) lane ∙ xor_self (get_or bytes zeros 0))))
         | inr after ↦ grind (arith, nat_tests, after)
       ],

@@ -1,8 +1,11 @@
-use Rattle.std.proofs.Common.{◌∙◌, ◌∷◌, [], ap, append-nil, append_assoc, arith, map, slice_range}
-use Rattle.std.proofs.lemmas.List.{length-map}
-use Rattle.literal_search.proofs.lemmas.Callers.{greedy_from_matches, matches_go_on, matches_of}
+use Rattle.std.proofs.Common.{Some, ◌<◌, ◌∙◌, ◌∷◌, [], ap, append-nil, append_assoc, arith, length, map, rules}
+use Rattle.std.proofs.Common.{slice_range}
+use Rattle.std.proofs.lemmas.List.{length-drop, length-map}
+use Rattle.literal_search.proofs.lemmas.Callers.{greedy_from_matches, match_from, matches_go_on, matches_of}
 use Rattle.literal_search.proofs.lemmas.Replaced.{replacement_at}
 use Rattle.literal_search.specs.Replaced.{replaced}
+use Rattle.literal_search.specs.declared.replace.ReplaceError.TheVariants.{OutOfMemory}
+use Rattle.literal_folding.specs.Replaced.{RefusesToReplaceFolded}
 use Rattle.literal_folding.specs.FoldedSearchValue.{kept_case}
 use Rattle.literal_folding.specs.Folding.{folded}
 use Rattle.literal_folding.proofs.lemmas.Texts.{length-folded}
@@ -52,3 +55,63 @@ returns-clause-ok c =
       is_replaced = c.in_ok-extend_from_slice-3.ensures.items
           ∙ (so_far.goes_on [] ∙ ap (replaced c.args.text.now given 0) (append-nil c.loop-found.yielded));
     }
+
+pub returns-in_err-extend_from_slice-clause-error : goal.returns-in_err-extend_from_slice-clause-error
+returns-in_err-extend_from_slice-clause-error c =
+    let so_far = c.loop-found.invariant in
+    let step = c.in-Some.ensures.steps in
+    let found = match_from so_far.from (Some c.in-Some.found) step in
+    let some : 0 < length c.args.text.now =
+    omega (arith, so_far.len, found.occurs.before_end, found.whole, step.not_empty) in
+    let refused : RefusesToReplaceFolded c.args.self.now c.args.text.now (map (λ r. r.now) c.args.replacements.now)
+    OutOfMemory = (
+      omega (
+        arith,
+        c.if-replacements-patterns_len.false,
+        c.patterns_len.ensures.len,
+        length-map c.args.replacements.now (λ r. r.now),
+      ),
+      some,
+    ) in
+    search (rules, refused)
+
+pub returns-in_err-extend_from_slice-2-clause-error : goal.returns-in_err-extend_from_slice-2-clause-error
+returns-in_err-extend_from_slice-2-clause-error c =
+    let so_far = c.loop-found.invariant in
+    let step = c.in-Some.ensures.steps in
+    let found = match_from so_far.from (Some c.in-Some.found) step in
+    let some : 0 < length c.args.text.now =
+    omega (arith, so_far.len, found.occurs.before_end, found.whole, step.not_empty) in
+    let refused : RefusesToReplaceFolded c.args.self.now c.args.text.now (map (λ r. r.now) c.args.replacements.now)
+    OutOfMemory = (
+      omega (
+        arith,
+        c.if-replacements-patterns_len.false,
+        c.patterns_len.ensures.len,
+        length-map c.args.replacements.now (λ r. r.now),
+      ),
+      some,
+    ) in
+    search (rules, refused)
+
+pub returns-in_err-extend_from_slice-3-clause-error : goal.returns-in_err-extend_from_slice-3-clause-error
+returns-in_err-extend_from_slice-3-clause-error c =
+    let so_far = c.loop-found.invariant in
+    let some : 0 < length c.args.text.now =
+    omega (
+      arith,
+      c.in_err-extend_from_slice-3.ensures.full,
+      c.loop-found.answer.ok,
+      length-drop c.loop-found.at c.args.text.now,
+    ) in
+    let refused : RefusesToReplaceFolded c.args.self.now c.args.text.now (map (λ r. r.now) c.args.replacements.now)
+    OutOfMemory = (
+      omega (
+        arith,
+        c.if-replacements-patterns_len.false,
+        c.patterns_len.ensures.len,
+        length-map c.args.replacements.now (λ r. r.now),
+      ),
+      some,
+    ) in
+    search (rules, refused)

@@ -1,10 +1,15 @@
-use Rattle.std.proofs.Common.{arith}
+use Rattle.std.proofs.Common.{ℕ, sym, subst}
+use Rattle.literal_search.specs.Inside.Backward.{back_tables_by}
+use Rattle.literal_search.specs.Inside.Cursor.{AreKnown, IsIn}
 use Rattle.literal_search.proofs.backward.Backward.next_in.Goals as goal
 
-pub returns-then-self-le-LEAST-clause-ahead : goal.returns-then-self-le-LEAST-clause-ahead
-returns-then-self-le-LEAST-clause-ahead c =
-    let placed = c.next_match.ensures.placed c.args.on in grind arith
+pub returns-clause-knows : goal.returns-clause-knows
+returns-clause-knows c = λ search is knows.
+    subst (λ (at : ℕ). AreKnown (back_tables_by search c.args.self.now) c.args.haystack.now c.args.span at
+    c.next_by.new.marks c.next_by.new.room) (sym c.offset_after.ensures)
+    (c.in_ok-answer.ensures.knows search is knows c.args.on)
 
-pub returns-then-self-le-LEAST-clause-looked : goal.returns-then-self-le-LEAST-clause-looked
-returns-then-self-le-LEAST-clause-looked c =
-    let placed = c.next_match.ensures.placed c.args.on in grind arith
+pub returns-clause-cursor : goal.returns-clause-cursor
+returns-clause-cursor c =
+    subst (λ (at : ℕ). IsIn c.args.self.now.table.longest c.args.span at c.next_by.new.marks c.next_by.new.room)
+    (sym c.offset_after.ensures) (c.in_ok-answer.ensures.placed c.args.on)

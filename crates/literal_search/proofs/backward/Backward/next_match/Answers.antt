@@ -1,4 +1,4 @@
-use Rattle.std.proofs.Common.{◌≡◌, ◌∙◌, ◌+◌, ◌<◌, ◌≤◌, ℕ, IfSome, List, None, Option, Some, arith, rules, sym, true}
+use Rattle.std.proofs.Common.{◌≡◌, ◌∙◌, ◌+◌, ◌≤◌, ℕ, IfSome, List, None, Option, Some, arith, rules, sym, true}
 use Rattle.std.specs.Option.{is_some}
 use Rattle.literal_base.specs.MatchValue.{MatchValue}
 use Rattle.literal_base.specs.declared.search.Span.{Span}
@@ -23,7 +23,7 @@ marked_behind tables haystack span from numbers m before marked b (Some found) l
 -- and where it goes on after the match of a search that looked ahead
 marked_after : (tables : BackTables) (haystack : List ℕ) (span : Span) (at from : ℕ) (numbers : List ℕ) (m : Marks)
     → AreMarked tables haystack span at numbers m → (b : Backward) (found : Option MatchValue) → is_some found ≡ true
-    → IfSome found (λ f. IsMatchBy b span from f × (f.start < at) × (at ≤ f.start + 1)) → (on : Continuation)
+    → IfSome found (λ f. IsMatchBy b span from f × (at ≡ f.start + 1)) → (on : Continuation)
     → AreMarked tables haystack span (offset_by on span found) numbers m
 marked_after tables haystack span at from numbers m marked b (Some found) some lies AtEnd = grind arith
 marked_after tables haystack span at from numbers m marked b (Some found) some lies AfterStart = grind arith
@@ -50,4 +50,7 @@ loop-from-preserved c = record {
 
 pub returns-then-is_some-2-clause-marked : goal.returns-then-is_some-2-clause-marked
 returns-then-is_some-2-clause-marked c = λ search is marked on.
-    grind (arith, marked_behind)
+    let ahead = c.in_ok-looked.ensures in
+    marked_behind _ _ _ _ _ _ ahead.placed.inside
+    (ahead.marked search is (c.loop-from.invariant.marked search is marked)) c.args.self.now _
+    c.in_ok-found.ensures.lies on

@@ -1,22 +1,17 @@
-use Rattle.std.proofs.Common.{◌≡◌, ◌+◌, ◌-◌, ◌*◌, ◌≤◌, List, length}
+use Rattle.std.proofs.Common.{◌-◌, List, length}
 use Rattle.std.specs.Iterator.{Yields}
 use Rattle.literal_base.specs.MatchValue.{MatchValue}
 use Rattle.literal_search.specs.MatchesValue.{GivesCounted}
-use Rattle.literal_search.specs.SearchValue.{longest_of}
-use Rattle.literal_search.specs.declared.backward.TheConstants.{LEAST}
 use Rattle.literal_search.proofs.lemmas.Callers.{matches_of}
 use Rattle.literal_search.proofs.lemmas.Replaced.{IsWrittenTo}
 use Rattle.literal_search.proofs.search.Search.replace_all_counted.Given as goal
 
--- the text so far goes on as it has to, and so many bytes were looked up
+-- the text so far goes on as it has to
 abbrev pub invariant-loop-found : goal.invariant-loop-found
 invariant-loop-found l = record {
   done : List MatchValue;
   run : Yields GivesCounted (matches_of l.self l.haystack, l.fn.tally) done (l.matches, l.tally);
   written : IsWrittenTo l.self l.haystack l.replacements l.matches l.at l.text.items done;
-  others : l.tally ≡ record l.fn.tally { scanned = l.tally.scanned };
-  known : l.matches.known ≤ length l.haystack;
-  scanned : longest_of l.self.query.patterns ≤ LEAST → l.tally.scanned ≤ l.fn.tally.scanned + 3 * l.matches.known;
 }
 
 abbrev pub decreases-loop-found : goal.decreases-loop-found

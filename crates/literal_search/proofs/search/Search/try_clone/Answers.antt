@@ -1,4 +1,4 @@
-use Rattle.std.proofs.Common.{◌≡◌, ℕ, List, [], ap, false, arith, inl, inr, length, map, subst, sym}
+use Rattle.std.proofs.Common.{◌≡◌, ℕ, List, [], Some, ap, arith, inl, inr, length, map, subst, sym}
 use Rattle.std.proofs.lemmas.Bool.{cases_lt}
 use Rattle.std.proofs.lemmas.List.{length-map, nil_from_length}
 use Rattle.std.specs.Global.{Vec}
@@ -20,7 +20,7 @@ invariant_of-result c =
           let no : length p.patterns.items ≡ 0 = omega (arith, not) in
           let nil : patterns_of p ≡ [] = grind (arith, length-map, nil_from_length) in
           subst (AreKept (search_value p)) (sym (c.in_ok-numbers.ensures.none (omega (arith, no, long))))
-          (subst (λ (l : List (List ℕ)). AreKept (search_by p.kind p.ignore_case l) (numbers_kept false [])) (sym nil)
-          (none_are_kept p.kind p.ignore_case))
+          (subst (λ (l : List (List ℕ)). AreKept (search_by p.kind p.ignore_case l) (numbers_kept (Some p.kind) []))
+          (sym nil) (none_are_kept p.kind p.ignore_case))
     ] in
     subst (λ (l : List (List ℕ)). AreKept (search_by p.kind p.ignore_case l) c.in_ok-numbers.numbers) (sym same) kept

@@ -1,4 +1,4 @@
-use Rattle.std.proofs.Common.{cond, is_some, ◌≡◌, ◌+◌, ◌-◌, ◌++◌, ◌^◌, List, ℕ, length}
+use Rattle.std.proofs.Common.{cond, is_some, ◌≡◌, ◌⊎◌, ◌<◌, ◌+◌, ◌-◌, ◌++◌, ◌^◌, List, ℕ, length}
 use Rattle.std.specs.Io.KnownBytes.{Consumes}
 use Rattle.literal_search.specs.Inside.Stream.{HasReadOn, IsSoundReading, IsWindow, held}
 use Rattle.literal_search.proofs.window.Window.fill.Given as goal
@@ -12,7 +12,9 @@ invariant-loop-self g l = record {
   reads : Consumes (g.R.Read.remaining l.fn.reader) (g.R.Read.remaining l.reader) piece;
   held_is : held l.self ≡ held l.fn.self ++ piece;
   read_on : HasReadOn l.fn.reading piece l.reading;
+  needed : (held l.self ≡ held l.fn.self) ⊎ (length (held l.self) < l.enough + l.reading.last);
   sound : IsSoundReading l.reading (g.R.Read.remaining l.reader);
+  begins : l.self.passed ≡ 0;
 }
 
 abbrev pub decreases-loop-self : goal.decreases-loop-self

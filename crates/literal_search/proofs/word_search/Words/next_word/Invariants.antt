@@ -1,9 +1,7 @@
-use Rattle.std.proofs.Common.{◌+◌, ◌-◌, ◌<◌, ◌≤◌, ℕ}
+use Rattle.std.proofs.Common.{◌-◌, ◌<◌, ◌≤◌, ℕ}
 use Rattle.literal_base.specs.Occurs.{between}
-use Rattle.literal_search.specs.Inside.WholeWords.{AreKnownStarts, ForWords}
-use Rattle.literal_search.specs.SearchValue.{looked_by}
-use Rattle.literal_search.specs.declared.backward.TheConstants.{LEAST}
-use Rattle.literal_search.specs.WholeWords.{OccursAloneBy, ScansWordsAtMost}
+use Rattle.literal_search.specs.Inside.WholeWords.{AreKnownStarts, ForWords, starts_looked_up}
+use Rattle.literal_search.specs.WholeWords.{OccursAloneBy, ScansWordsBy}
 use Rattle.literal_search.proofs.word_search.Words.next_word.Given as goal
 
 -- no whole word begins from the offset on before the offset from which the starts go on
@@ -14,12 +12,13 @@ invariant-loop-found l = record {
       → ¬ OccursAloneBy parts.search.query.patterns parts.search.ignore_case parts.word_bytes l.fn.haystack l.fn.sides
       (between l.fn.at l.fn.span.end) i k);
   later : l.fn.starts.at ≤ l.starts.at;
-  further : l.fn.starts.marks.known ≤ l.starts.marks.known;
-  scans : ScansWordsAtMost l.fn.self.backward.table.longest l.fn.span l.fn.starts.at l.starts.at
-      l.fn.starts.marks.known l.starts.marks.known l.fn.tally l.tally;
-  least : l.fn.self.backward.table.longest ≤ LEAST
-      → l.fn.tally.scanned + looked_by l.fn.self.backward.table.longest l.fn.span l.starts.marks.known
-      ≤ l.tally.scanned + looked_by l.fn.self.backward.table.longest l.fn.span l.fn.starts.marks.known;
+  inside : l.starts.at ≤ l.fn.span.end;
+  least : (starts_looked_up l.fn.self l.fn.span l.fn.starts).least
+      ≤ (starts_looked_up l.fn.self l.fn.span l.starts).least;
+  most : (starts_looked_up l.fn.self l.fn.span l.fn.starts).most ≤ (starts_looked_up l.fn.self l.fn.span l.starts).most;
+  scans : ScansWordsBy l.fn.self.backward.table.longest l.fn.starts.at l.starts.at
+      (starts_looked_up l.fn.self l.fn.span l.fn.starts) (starts_looked_up l.fn.self l.fn.span l.starts) l.fn.tally
+      l.tally;
 }
 
 abbrev pub decreases-loop-found : goal.decreases-loop-found

@@ -1,6 +1,6 @@
 use Rattle.std.proofs.Common.{arith, refl, subst, ℕ}
 use Rattle.literal_base.specs.Occurs.{between}
-use Rattle.literal_search.specs.Inside.WholeWords.{WordParts, owned_parts, whole_words_value}
+use Rattle.literal_search.specs.Inside.WholeWords.{WordParts, owned_parts, starts_looked_up, whole_words_value}
 use Rattle.literal_search.specs.WholeWords.{GivesWordBySides, IsFirstAloneBy, WholeWordMatchesValue}
 use Rattle.literal_search.specs.WholeWords.{WordMatchesBySidesValue}
 use Rattle.literal_search.proofs.lemmas.Prepared.{some_by}
@@ -20,7 +20,7 @@ returns-clause-gives c =
       span = m.span;
       at = at;
       from = from;
-      known = starts.marks.known;
+      look_ups = starts_looked_up m.words m.span starts;
     } in v in
     subst (λ (v : WordMatchesBySidesValue). GivesWordBySides v answer
     (record { matches = new_at c.offset_after-self-inside.result starts.at; sides = m.sides.now }))
@@ -30,7 +30,7 @@ returns-clause-gives c =
             IsFirstAloneBy (whole_words_value p) m.haystack.now m.sides.now (between m.at m.span.end) answer)
             told.leftmost;
         not_empty = some_by m.words.backward m.span m.at answer told.lies;
-        known = starts.marks.known;
+        look_ups = starts_looked_up m.words m.span starts;
         goes_on = grind arith;
         looks = grind arith;
       };

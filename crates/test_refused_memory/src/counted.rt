@@ -1,0 +1,148 @@
+//! How many requests for memory calls make. `checks/refusals` compares two tests by their names: a test whose name ends
+//! in `_and_no_more` makes as many requests as the test with the name before that, and one with `_and_one_more` in its
+//! name makes one more.
+use crate::made::words_without_a_table;
+use literal_search::{MatchKind, Overlapping, Search, Span, WholeWords, WordText};
+use std::alloc::{AllocError, Global};
+use std::io;
+
+/// A text with some of the patterns, and one without any.
+const TEXT: &str = "q bye, ax bye";
+
+const OTHER: &str = "no word of the list";
+
+fn built(alloc: Global) -> Result<Search, AllocError> {
+    Search::new(
+        alloc,
+        MatchKind::LeftmostFirst,
+        false,
+        words_without_a_table(),
+    )
+    .or(Err(AllocError))
+}
+
+fn built_words(alloc: Global) -> Result<WholeWords, AllocError> {
+    let set = WholeWords::ascii_word_bytes();
+    WholeWords::new(
+        alloc,
+        MatchKind::LeftmostFirst,
+        false,
+        set,
+        words_without_a_table(),
+    )
+    .or(Err(AllocError))
+}
+
+fn built_for_all(alloc: Global) -> Result<Overlapping, AllocError> {
+    Overlapping::new(alloc, false, words_without_a_table()).or(Err(AllocError))
+}
+
+#[test]
+fn search(rt: HostRuntime) -> Result<(), AllocError> {
+    assert!(rt; built(rt.alloc())?.is_match(TEXT.as_bytes()));
+    Ok(())
+}
+
+#[test]
+fn search_and_no_more(rt: HostRuntime) -> Result<(), AllocError> {
+    let (search, text) = (built(rt.alloc())?, TEXT.as_bytes());
+    assert!(rt; search.find(text).is_some() && search.is_match(text));
+    assert!(rt; search.find_in(text, Span { start: 2, end: 5 }).is_some());
+    assert!(rt; search.find_iter(text).count() == 3 && search.starts(text).count() == 3);
+    assert!(rt; search.match_at(text, 2).is_some());
+    assert!(rt; search.find_all(OTHER.as_bytes())?.is_empty());
+    Ok(())
+}
+
+#[test]
+fn search_and_one_more(rt: HostRuntime) -> Result<(), AllocError> {
+    let search = built(rt.alloc())?;
+    let mut matches = search.find_stream(rt.alloc(), TEXT.as_bytes())?;
+    assert!(rt; matches.next().is_some());
+    Ok(())
+}
+
+#[test]
+fn search_and_one_more_to_replace(rt: HostRuntime) -> Result<(), AllocError> {
+    let search = built(rt.alloc())?;
+    let (mut text, mut sink) = (TEXT.as_bytes(), io::sink());
+    let done = search.replace_stream(rt.alloc(), &mut text, &mut sink, &[b"".as_slice(); 24]);
+    done.or(Err(AllocError))
+}
+
+#[test]
+fn words(rt: HostRuntime) -> Result<(), AllocError> {
+    assert!(rt; built_words(rt.alloc())?.is_match(TEXT.as_bytes()));
+    Ok(())
+}
+
+#[test]
+fn words_and_no_more(rt: HostRuntime) -> Result<(), AllocError> {
+    let (search, text) = (built_words(rt.alloc())?, TEXT.as_bytes());
+    assert!(rt; search.find(text).is_some() && search.find_iter(text).count() == 3);
+    assert!(rt; search.find_all(OTHER.as_bytes())?.is_empty());
+    let text = WordText::new(rt.alloc(), TEXT)?;
+    assert!(rt; search.find_text(&text).is_some() && search.find_text_iter(&text).count() == 3);
+    Ok(())
+}
+
+#[test]
+fn words_and_one_more(rt: HostRuntime) -> Result<(), AllocError> {
+    let search = built_words(rt.alloc())?;
+    let mut matches = search.find_stream(rt.alloc(), TEXT.as_bytes())?;
+    assert!(rt; matches.next().is_some());
+    Ok(())
+}
+
+#[test]
+fn occurrences(rt: HostRuntime) -> Result<(), AllocError> {
+    assert!(rt; built_for_all(rt.alloc())?.is_match(TEXT.as_bytes()));
+    Ok(())
+}
+
+#[test]
+fn occurrences_and_no_more(rt: HostRuntime) -> Result<(), AllocError> {
+    let (search, text) = (built_for_all(rt.alloc())?, TEXT.as_bytes());
+    let span = Span {
+        start: 0,
+        end: text.len(),
+    };
+    assert!(rt; search.find_overlapping_iter(text).count() == 18);
+    assert!(rt; search.count_overlapping_in(text, span) == 18);
+    assert!(rt; search.earliest_end(text, span).is_some());
+    let automaton = search.automaton();
+    let state = automaton.next_state(automaton.start_state(), b'a');
+    assert!(rt; !automaton.is_match(state) && automaton.matches(state).is_empty());
+    Ok(())
+}
+
+#[test]
+fn occurrences_and_one_more(rt: HostRuntime) -> Result<(), AllocError> {
+    let search = built_for_all(rt.alloc())?;
+    let mut matches = search.find_overlapping_stream(rt.alloc(), TEXT.as_bytes())?;
+    assert!(rt; matches.next().is_some());
+    Ok(())
+}
+
+#[test]
+fn text(rt: HostRuntime) {
+    assert!(rt; TEXT.is_ascii());
+}
+
+/// Without a character beyond ASCII.
+#[test]
+fn text_and_no_more(rt: HostRuntime) -> Result<(), AllocError> {
+    let text = WordText::new(rt.alloc(), TEXT)?;
+    assert!(rt; text.sides() == TEXT.as_bytes());
+    Ok(())
+}
+
+/// An empty list allocates nothing.
+#[test]
+fn text_and_no_more_for_no_pattern(rt: HostRuntime) -> Result<(), AllocError> {
+    let kind = MatchKind::LeftmostLongest;
+    let search = Search::new(rt.alloc(), kind, false, []).or(Err(AllocError))?;
+    let all = Overlapping::new(rt.alloc(), false, []).or(Err(AllocError))?;
+    assert!(rt; !search.is_match(TEXT.as_bytes()) && !all.is_match(TEXT.as_bytes()));
+    Ok(())
+}
