@@ -1,7 +1,7 @@
 //! Calls of the prefilter's `Builder`.
 use literal_prefilters::prefilter::Builder;
 use literal_prefilters::{MatchKind, Span};
-use std::alloc::Global;
+use std::alloc::{AllocError, Global};
 use std::process::Abort;
 
 /// The offsets that are proposed in `xxfoo` and `oxof` for no word, for `foo`, and for `foo` and `of`.
@@ -43,4 +43,27 @@ fn add_of_prefilter_builder(rt: HostRuntime) {
     let mut builder = of_none(rt.alloc());
     adds(&rt, &mut builder, 0, b"foo");
     adds(&rt, &mut builder, 1, b"of");
+}
+
+/// A builder of one word.
+fn of_one(alloc: Global) -> Result<Builder, AllocError> {
+    let mut builder = of_none(alloc);
+    builder.add(b"foo").or(Err(AllocError))?;
+    Ok(builder)
+}
+
+#[test]
+fn prefilter(rt: HostRuntime) -> Result<(), AllocError> {
+    assert_builds(&rt, &of_one(rt.alloc())?, 1);
+    Ok(())
+}
+
+/// It has a table in place of patterns.
+#[test]
+fn prefilter_and_no_more_to_clone(rt: HostRuntime) -> Result<(), AllocError> {
+    let built = of_one(rt.alloc())?.build()?;
+    let copy = built.expect(&rt, "no prefilter").try_clone()?;
+    let found = copy.find_in(b"xxfoo", Span { start: 0, end: 5 });
+    assert!(rt; found.into_option() == Some(2));
+    Ok(())
 }

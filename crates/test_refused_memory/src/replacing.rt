@@ -140,28 +140,31 @@ fn replace_stream_with_of_a_search(rt: HostRuntime) -> Result<(), AllocError> {
 }
 
 /// A text in which words are replaced.
+const LENGTHS: &str = "ein Maß, ein Fuß und was sonst dahinter steht";
+
+/// The text with its words replaced, or an empty one if there is no text.
 fn replace_words(
     alloc: Global,
     words: &[String],
+    text: Option<&str>,
 ) -> Result<Result<String, ReplaceError>, BuildError> {
     let patterns = words.iter().map(|word| word.as_bytes());
     let search = Search::new(alloc, MatchKind::LeftmostFirst, false, patterns)?;
-    Ok(search.replace_all_str(
-        alloc,
-        "ein Maß, ein Fuß und was sonst dahinter steht",
-        &["Meter", ""],
-    ))
+    Ok(match text {
+        Some(text) => search.replace_all_str(alloc, text, &["Meter", ""]),
+        None => Ok(String::new(alloc)),
+    })
 }
 
 #[test]
 fn replace_all_str_of_a_search(rt: HostRuntime) -> Result<(), AllocError> {
     let alloc = rt.alloc();
     let words = [format!(in alloc; "Maß")?, format!(in alloc; "Fuß")?];
-    let text = match replace_words(alloc, &words) {
+    let text = match replace_words(alloc, &words, Some(LENGTHS)) {
         Ok(Ok(text)) => text,
         Ok(Err(error)) => {
             assert!(rt; error == ReplaceError::OutOfMemory);
-            let again = replace_words(alloc, &words).or(Err(AllocError));
+            let again = replace_words(alloc, &words, Some(LENGTHS)).or(Err(AllocError));
             again?.expect(&rt, "it was refused again")
         }
         Err(error) => {
@@ -171,4 +174,26 @@ fn replace_all_str_of_a_search(rt: HostRuntime) -> Result<(), AllocError> {
     };
     assert!(rt; text.as_str().starts_with("ein Meter, ein  und"));
     Ok(())
+}
+
+/// The text without its words, which is empty, or another empty one.
+fn assert_leaves_nothing(
+    rt: &impl Abort,
+    alloc: Global,
+    text: Option<&str>,
+) -> Result<(), AllocError> {
+    let words = [format!(in alloc; "Maß")?, format!(in alloc; "Fuß")?];
+    let replaced = replace_words(alloc, &words, text).or(Err(AllocError))?;
+    assert!(rt; replaced.or(Err(AllocError))?.is_empty());
+    Ok(())
+}
+
+#[test]
+fn text(rt: HostRuntime) -> Result<(), AllocError> {
+    assert_leaves_nothing(&rt, rt.alloc(), None)
+}
+
+#[test]
+fn text_and_no_more_to_replace(rt: HostRuntime) -> Result<(), AllocError> {
+    assert_leaves_nothing(&rt, rt.alloc(), Some("Fuß"))
 }

@@ -82,27 +82,32 @@ fn replace_text_all_of_a_word_text(rt: HostRuntime) -> Result<(), AllocError> {
 /// A text with a word and a longer word.
 const LENGTHS: &str = "Maße, ein Maß, ein Fuß und was sonst dahinter steht";
 
-/// The text with its whole words replaced, or by the sides of its characters.
+/// Where words are replaced: nowhere, in a text by its bytes, or in one by its characters.
+#[derive(Clone, Copy)]
+enum Where<'t> {
+    Nowhere,
+    Bytes(&'t str),
+    Text(&'t WordText<'t>),
+}
+
+/// The text with its whole words replaced.
 fn replaced_in_text(
     alloc: Global,
     words: &[String],
-    text: Option<&WordText<'_>>,
+    text: Where<'_>,
 ) -> Result<Result<String, ReplaceError>, BuildError> {
     let set = WholeWords::ascii_word_bytes();
     let patterns = words.iter().map(|word| word.as_bytes());
     let search = WholeWords::new(alloc, MatchKind::LeftmostFirst, false, set, patterns)?;
     Ok(match text {
-        Some(text) => search.replace_text_all_str(alloc, text, &["Meter", ""]),
-        None => search.replace_all_str(alloc, LENGTHS, &["Meter", ""]),
+        Where::Nowhere => Ok(String::new(alloc)),
+        Where::Bytes(text) => search.replace_all_str(alloc, text, &["Meter", ""]),
+        Where::Text(text) => search.replace_text_all_str(alloc, text, &["Meter", ""]),
     })
 }
 
 /// Replaces the words, once more if memory is refused.
-fn replaces_in_text(
-    rt: &impl Abort,
-    alloc: Global,
-    text: Option<&WordText<'_>>,
-) -> Result<(), AllocError> {
+fn replaces_in_text(rt: &impl Abort, alloc: Global, text: Where<'_>) -> Result<(), AllocError> {
     let words = [format!(in alloc; "Maß")?, format!(in alloc; "Fuß")?];
     let answer = match replaced_in_text(alloc, &words, text) {
         Ok(Ok(answer)) => answer,
@@ -122,11 +127,42 @@ fn replaces_in_text(
 
 #[test]
 fn replace_all_str_of_whole_words(rt: HostRuntime) -> Result<(), AllocError> {
-    replaces_in_text(&rt, rt.alloc(), None)
+    replaces_in_text(&rt, rt.alloc(), Where::Bytes(LENGTHS))
 }
 
 #[test]
 fn replace_text_all_str_of_a_word_text(rt: HostRuntime) -> Result<(), AllocError> {
     let text = WordText::new(rt.alloc(), LENGTHS)?;
-    replaces_in_text(&rt, rt.alloc(), Some(&text))
+    replaces_in_text(&rt, rt.alloc(), Where::Text(&text))
+}
+
+/// A text with one of the words, which is left out.
+const LEFT_OUT: &str = "Fuß";
+
+/// What is left of the text.
+fn assert_leaves_nothing(
+    rt: &impl Abort,
+    alloc: Global,
+    text: Where<'_>,
+) -> Result<(), AllocError> {
+    let words = [format!(in alloc; "Maß")?, format!(in alloc; "Fuß")?];
+    let replaced = replaced_in_text(alloc, &words, text).or(Err(AllocError))?;
+    assert!(rt; replaced.or(Err(AllocError))?.is_empty());
+    Ok(())
+}
+
+#[test]
+fn text(rt: HostRuntime) -> Result<(), AllocError> {
+    assert_leaves_nothing(&rt, rt.alloc(), Where::Nowhere)
+}
+
+#[test]
+fn text_and_no_more_to_replace(rt: HostRuntime) -> Result<(), AllocError> {
+    assert_leaves_nothing(&rt, rt.alloc(), Where::Bytes(LEFT_OUT))
+}
+
+#[test]
+fn text_and_one_more_to_replace(rt: HostRuntime) -> Result<(), AllocError> {
+    let text = WordText::new(rt.alloc(), LEFT_OUT)?;
+    assert_leaves_nothing(&rt, rt.alloc(), Where::Text(&text))
 }
