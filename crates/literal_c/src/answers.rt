@@ -1,11 +1,13 @@
 //! Answers in the form that C gets.
-ghost use Rattle.std.specs.Prelude.{◌≡◌, ◌+◌, ◌-◌, ◌≤◌, Bool, IfOk, OnOk, length};
+ghost use Rattle.std.specs.Prelude.{◌≡◌, ◌+◌, ◌-◌, ◌≤◌, Bool, IfOk, OnOk, length, slice_index};
 ghost use Rattle.std.specs.List.{AllZip};
 ghost use Rattle.std.specs.Result.{IsOkAnd};
+ghost use Rattle.literal_base.specs.Occurs.{IsValidSpan};
 ghost use Rattle.literal_base.specs.Query.{Query};
 ghost use Rattle.literal_c.specs.Answers.{IsAnswerForC, IsCount, IsPage, MayBeAnswer, MayBePage};
 ghost use Rattle.literal_c.specs.Answers.{answer_for_c as answer_value, match_for_c as match_value};
 ghost use Rattle.literal_search.specs.OverlappingMatchesValue.{OverlappingMatchesValue};
+ghost use Rattle.literal_search.specs.Prepared.{ForPrepared};
 ghost use Rattle.literal_search.specs.SearchValue.{SearchValue};
 ghost use Rattle.literal_c.specs.Inside.Given.{AreGiven};
 ghost use Rattle.literal_c.specs.Overlapping.{IsOverlappingPage};
@@ -13,7 +15,7 @@ ghost use Rattle.literal_c.specs.Overlapping.{IsOverlappingPage};
 use crate::finder::{Finder, LeftmostMatches, Occurrences};
 use crate::pieces::Pieces;
 use crate::{LITERAL_NONE, LITERAL_OK, LiteralAnswer, LiteralMatch, LiteralPage};
-use literal_search::{Damaged, Match, Span};
+use literal_search::{Damaged, Match, Prepared, SHORT_SPAN, Span};
 
 /// A match for C.
 pub fn match_for_c(found: &Match) -> LiteralMatch
@@ -79,6 +81,38 @@ pub fn write_page<M: LeftmostMatches + Drop>(
         return Ok(page);
     }
     Ok(page)
+}
+
+/// Writes the matches in a span of a haystack, by an iteration that takes no more memory than the span needs.
+pub fn page_in(
+    search: &Prepared<'_>,
+    haystack: &[u8],
+    span: Span,
+    found: &mut [LiteralMatch],
+) -> Result<LiteralPage, Damaged>
+    requires { IsValidSpan haystack.now span }
+    ensures page { ForPrepared search.now (λ whole. IsOkAnd result
+        (IsPage whole.query whole.ignore_case haystack.now span found.old found.new)) }
+    ensures inside { IfOk result (MayBePage span (slice_index search.now 3) found.new) }
+    ensures goes_on { IfOk result (λ page. span.start + page.written ≤ page.next) }
+{
+    if span.end - span.start <= SHORT_SPAN {
+        return write_page(search.find_iter_in_short(haystack, span), span.start, found);
+    }
+    write_page(search.find_iter_in(haystack, span), span.start, found)
+}
+
+/// Counts the matches in a span of a haystack, in the same way.
+pub fn count_in(search: &Prepared<'_>, haystack: &[u8], span: Span) -> Result<usize, Damaged>
+    requires { IsValidSpan haystack.now span }
+    ensures count { ForPrepared search.now (λ whole. IsOkAnd result
+        (IsCount whole.query whole.ignore_case haystack.now span)) }
+    ensures most { IfOk result (λ count. count ≤ span.end - span.start) }
+{
+    if span.end - span.start <= SHORT_SPAN {
+        return count_matches(search.find_iter_in_short(haystack, span));
+    }
+    count_matches(search.find_iter_in(haystack, span))
 }
 
 /// Writes the occurrences of an iteration that begins at an offset, as many as there is room for, and returns how many

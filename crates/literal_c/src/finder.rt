@@ -3,7 +3,7 @@ ghost use Rattle.std.specs.Prelude.{◌≡◌};
 
 use literal_search::{
     Damaged, Match, Matches, OverlappingMatches, Prepared, PreparedMatches,
-    PreparedOverlappingMatches, Search, Span,
+    PreparedOverlappingMatches, PreparedShortMatches, Search, Span,
 };
 
 /// A search, by numbers that may be damaged.
@@ -118,6 +118,25 @@ impl LeftmostMatches for PreparedMatches<'_, '_, '_> {
     #[inline(always)]
     fn next_match(&mut self) -> Result<Option<Match>, Damaged> {
         PreparedMatches::next_match(self)
+    }
+}
+
+impl LeftmostMatches for PreparedShortMatches<'_, '_, '_> {
+    ghost use Rattle.std.specs.Prelude.{slice_index};
+    ghost use Rattle.literal_base.specs.Occurs.{between};
+    ghost use Rattle.literal_search.specs.Prepared.{IsPrepared};
+
+    ghost is_for = { λ matches search. IsPrepared search matches.numbers };
+
+    ghost rest = { λ matches. record {
+      haystack = matches.haystack;
+      span = between matches.at matches.span.end;
+      patterns = slice_index matches.numbers 3;
+    } };
+
+    #[inline(always)]
+    fn next_match(&mut self) -> Result<Option<Match>, Damaged> {
+        PreparedShortMatches::next_match(self)
     }
 }
 

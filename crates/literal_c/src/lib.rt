@@ -50,7 +50,7 @@ mod tests;
 mod word_tests;
 mod words;
 
-use answers::{answer_each, count_matches, match_for_c, write_overlapping, write_page};
+use answers::{answer_each, count_in, match_for_c, page_in, write_overlapping, write_page};
 use arguments::{can_be_searched, match_kind, search_for, search_for_all};
 pub use info::{LiteralInfo, literal_prepared_info};
 use literal_folding::fold_in_place;
@@ -556,8 +556,7 @@ pub extern "C" fn literal_find_all_in(
     let Ok(search) = Prepared::new(prepared) else {
         return LITERAL_DAMAGED;
     };
-    let matches = search.find_iter_in(haystack, Span { start, end });
-    match write_page(matches, start, found) {
+    match page_in(&search, haystack, Span { start, end }, found) {
         Err(Damaged) => LITERAL_DAMAGED,
         Ok(written) => {
             *page = written;
@@ -621,8 +620,7 @@ pub extern "C" fn literal_count_in(
     let Ok(search) = Prepared::new(prepared) else {
         return LITERAL_DAMAGED;
     };
-    let matches = search.find_iter_in(haystack, Span { start, end });
-    match count_matches(matches) {
+    match count_in(&search, haystack, Span { start, end }) {
         Err(Damaged) => LITERAL_DAMAGED,
         Ok(matches) => {
             *count = matches;

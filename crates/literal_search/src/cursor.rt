@@ -12,12 +12,10 @@ ghost use Rattle.literal_search.specs.declared.backward.Continuation.{Continuati
 
 use crate::backward::{Backward, Continuation, LEAST, Marks, no_marks, offset_after};
 use crate::prepared::Damaged;
+use crate::short_span::SHORT_SPAN;
 use crate::trail::Trail;
 use literal_base::count::Tally;
 use literal_base::{Match, Span};
-
-/// A span of at most this length needs only so many marks.
-const SHORT: usize = 128;
 
 /// Where an iteration continues, and what it knows of the offsets from there on.
 #[derive(Clone, Copy)]
@@ -32,7 +30,7 @@ pub struct Cursor {
 #[derive(Clone, Copy)]
 pub enum Room {
     /// For the marks of a short span.
-    Line([u32; SHORT]),
+    Line([u32; SHORT_SPAN]),
     /// For those of a block. No pattern is longer, unless the span is not.
     Block([u32; LEAST]),
     /// For those of a step, and the trail of a block.
@@ -49,7 +47,7 @@ impl Cursor {
         Cursor {
             at,
             marks: no_marks(at),
-            room: Room::Line([0; SHORT]),
+            room: Room::Line([0; SHORT_SPAN]),
         }
     }
 
@@ -64,7 +62,7 @@ impl Cursor {
         ensures none { look_ups_of longest span self.new ≡ no_look_ups }
     {
         let len = span.end - span.start;
-        if len <= SHORT {
+        if len <= SHORT_SPAN {
             return;
         }
         if len <= LEAST || longest <= LEAST {

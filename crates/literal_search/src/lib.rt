@@ -37,6 +37,7 @@ mod scan;
 mod search;
 mod shadowed;
 mod short;
+mod short_span;
 mod sought;
 mod stream;
 mod suffixes;
@@ -67,6 +68,7 @@ pub use prepared_words::{PreparedWordMatches, PreparedWordMatchesBySides, Prepar
 pub use replace::ReplaceError;
 pub use replace_stream::ReplaceStreamError;
 pub use search::{Matches, Search, Starts};
+pub use short_span::{PreparedShortMatches, SHORT_SPAN};
 use std::alloc::{AllocError, Global};
 use std::error::Error;
 use std::fmt;

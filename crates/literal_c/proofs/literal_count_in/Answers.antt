@@ -1,7 +1,5 @@
-use Rattle.std.proofs.Common.{ap, ◌∙◌, subst, sym}
-use Rattle.literal_base.specs.Occurs.{between}
-use Rattle.literal_search.specs.Prepared.{ForPrepared, IsPrepared, PreparedMatchesValue}
-use Rattle.literal_c.specs.Answers.{IsCount}
+use Rattle.std.proofs.Common.{subst, sym}
+use Rattle.literal_search.specs.Prepared.{ForPrepared, IsPrepared}
 use Rattle.literal_c.proofs.lemmas.Statuses.{damaged}
 use Rattle.literal_c.proofs.literal_count_in.Goals as goal
 
@@ -9,13 +7,4 @@ pub returns-in-Err-clause-status : goal.returns-in-Err-clause-status
 returns-in-Err-clause-status c =
     damaged _ (λ P. ForPrepared c.args.prepared.now (λ _. P)) _ _
     (record { ordered = c.if-start-end.false; in_haystack = c.if-end-haystack.false })
-    (λ search is _. c.in-Err.ensures.count search (subst (IsPrepared search)
-    (sym (ap (λ (m : PreparedMatchesValue). m.numbers) c.find_iter_in-matches.ensures ∙ c.in-Ok.ensures.0)) is))
-
-pub returns-in-Ok-count_matches-clause-count : goal.returns-in-Ok-count_matches-clause-count
-returns-in-Ok-count_matches-clause-count c = λ search is _.
-    let count = c.in-Ok-count_matches.matches in
-    subst (λ (m : PreparedMatchesValue). IsPrepared search m.numbers
-    → IsCount search.query search.ignore_case m.haystack (between m.at m.span.end) count)
-    c.find_iter_in-matches.ensures (c.in-Ok-count_matches.ensures.count search)
-    (subst (IsPrepared search) (sym c.in-Ok.ensures.0) is)
+    (λ search is _. c.in-Err.ensures.count search (subst (IsPrepared search) (sym c.in-Ok.ensures.0) is))

@@ -11,7 +11,8 @@ use Rattle.literal_search.specs.declared.backward.TheConstants.{LEAST}
 use Rattle.literal_search.specs.declared.cursor.Cursor.{Cursor}
 use Rattle.literal_search.specs.declared.trail.Trail.{Trail}
 use Rattle.literal_search.specs.declared.cursor.Room.{Room}
-use Rattle.literal_search.specs.declared.cursor.TheConstants.{SHORT}
+use Rattle.literal_search.specs.declared.short_span.ShortCursor.{ShortCursor}
+use Rattle.literal_search.specs.declared.short_span.TheConstants.{SHORT_SPAN}
 use Rattle.literal_search.specs.declared.cursor.Room.TheVariants.{Block, Line, Trailed}
 
 -- marks that are in a list of some length, which has room for those of a block
@@ -21,13 +22,13 @@ pub record HasRoom (longest : ℕ) (span : Span) (at : ℕ) (m : Marks) (len : �
 
 -- an iteration continues at `at`, with marks in such a room
 abbrev pub IsIn : ℕ → Span → ℕ → Marks → Room → Type 0
-IsIn longest span at m (Line numbers) = HasRoom longest span at m SHORT
+IsIn longest span at m (Line numbers) = HasRoom longest span at m SHORT_SPAN
 IsIn longest span at m (Block numbers) = HasRoom longest span at m LEAST
 IsIn longest span at m (Trailed trail) = IsFar longest span at trail m
 
 -- the room is large enough for marks in a span
 abbrev pub FitsIn : ℕ → Span → Room → Type 0
-FitsIn longest span (Line numbers) = room_for longest span ≤ SHORT
+FitsIn longest span (Line numbers) = room_for longest span ≤ SHORT_SPAN
 FitsIn longest span (Block numbers) = room_for longest span ≤ LEAST
 FitsIn longest span (Trailed trail) = ⊤
 
@@ -66,6 +67,10 @@ looked_in longest span m (Trailed trail) = looked_far longest span trail m
 -- the same of a state
 abbrev pub look_ups_of : ℕ → Span → Cursor → LookUps
 look_ups_of longest span c = looked_in longest span c.marks c.room
+
+-- the state of an iteration over a short span, as one over any span
+abbrev pub cursor_by : ShortCursor → Cursor
+cursor_by c = record { at = c.at; marks = c.marks; room = Line c.numbers }
 
 -- a room for a line
 abbrev pub IsLine : Room → Type 0
