@@ -39,7 +39,7 @@ MAKERS = (
     "WholeWords::find_text_in", "WordMatchesBySidesIterator::next",
     "Overlapping::earliest_end", "Overlapping::count_overlapping_in", "OverlappingMatchesIterator::next",
     "OverlappingStreamMatchesIterator::next",
-    "Prepared::find_in", "PreparedMatches::next_match",
+    "Prepared::find_in", "PreparedMatches::next_match", "PreparedShortMatches::next_match",
     "PreparedOverlapping::earliest_end", "PreparedOverlapping::count_overlapping_in",
     "PreparedOverlappingMatches::next_match", "PreparedOverlapping::walk",
     "PreparedWords::find_in", "PreparedWordMatches::next_match",
@@ -77,8 +77,9 @@ BYTES = re.compile(r"\b([a-z]\w*)\s*:[^,):]*(?:\[u8\]|\bVec<u8>|\bstr\b)")
 
 # The types that may keep a slice of bytes: a haystack, patterns, or what C hands over of either.
 KEEPERS = (
-    "FindIter", "Matches", "PreparedMatches", "OverlappingMatches", "PreparedOverlappingMatches", "Input", "Pattern",
-    "SearchRequest", "Pieces", "AnySearch", "WordText", "WordMatchesBySides", "PreparedWordMatchesBySides",
+    "FindIter", "Matches", "PreparedMatches", "PreparedShortMatches", "OverlappingMatches",
+    "PreparedOverlappingMatches", "Input", "Pattern", "SearchRequest", "Pieces", "AnySearch", "WordText",
+    "WordMatchesBySides", "PreparedWordMatchesBySides",
 )
 
 # The fields of `BucketEntries` that tell nothing of an entry, and the functions that may name the others: the one that

@@ -26,7 +26,8 @@ pub struct Cursor {
     pub room: Room,
 }
 
-/// Room for marks. It is only as large as the span needs: to clear 4 KiB takes longer than to search a line.
+/// Room for marks. All of it is cleared, whatever the variant, so short spans also have a
+/// [`ShortCursor`](crate::short_span::ShortCursor).
 #[derive(Clone, Copy)]
 pub enum Room {
     /// For the marks of a short span.

@@ -242,7 +242,7 @@ impl Search {
 
     /// The same in a span of the haystack. Each match lies whole in the span. All offsets are in bytes of the whole
     /// haystack. The span has to be valid: `start` is at most `end`, and `end` at most the haystack's length. It
-    /// allocates nothing: the iterator itself takes 4 KiB. For a span of at most 128 bytes it clears 512 bytes of them.
+    /// allocates nothing: the iterator itself takes 4 KiB.
     pub fn find_iter_in<'s, 'h>(&'s self, haystack: &'h [u8], span: Span) -> Matches<'s, 'h>
         requires { IsValidSpan haystack.now span }
         ensures { result ≡ record {

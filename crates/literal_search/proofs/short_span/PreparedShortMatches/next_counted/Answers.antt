@@ -11,7 +11,8 @@ use Rattle.literal_search.proofs.short_span.PreparedShortMatches.next_counted.Go
 pub next_in_short-requires-clause-cursor : goal.next_in_short-requires-clause-cursor
 next_in_short-requires-clause-cursor c =
     let m = c.self.inside in
-    subst (λ (n : ℕ). IsCursor n m.span (cursor_by m.cursor)) (sym c.backward-backward.ensures.longest) c.self.invariant.2.cursor
+    subst (λ (n : ℕ). IsCursor n m.span (cursor_by m.cursor)) (sym c.backward-backward.ensures.longest)
+    c.self.invariant.2.cursor
 
 pub invariant_of-self : goal.invariant_of-self
 invariant_of-self c =
@@ -27,8 +28,8 @@ invariant_of-self c =
         knows = λ search is. subst (λ (t : BackTables). KnowsAhead t m.haystack.now m.span cursor)
             (backward.tables search)
             (told.knows search (backward.is_for search is)
-            (subst (λ (t : BackTables). KnowsAhead t m.haystack.now m.span (cursor_by m.cursor)) (sym (backward.tables search))
-            (goes_on.knows search is)));
+            (subst (λ (t : BackTables). KnowsAhead t m.haystack.now m.span (cursor_by m.cursor))
+            (sym (backward.tables search)) (goes_on.knows search is)));
       },
     )
 
@@ -39,8 +40,8 @@ returns-in-Ok-clause-prepared c = λ search given.
     let backward = c.backward-backward.ensures in
     let is = subst (λ (v : PreparedMatchesValue). IsPrepared search v.numbers) (sym c.self.view_is) given in
     let is_for = backward.is_for search is in
-    let knows = subst (λ (t : BackTables). KnowsAhead t m.haystack.now m.span (cursor_by m.cursor)) (sym (backward.tables search))
-    (c.self.invariant.2.knows search is) in
+    let knows = subst (λ (t : BackTables). KnowsAhead t m.haystack.now m.span (cursor_by m.cursor))
+    (sym (backward.tables search)) (c.self.invariant.2.knows search is) in
     let cursor = cursor_by c.next_in_short.new.cursor in
     let longest = longest_in m.prepared.now in
     let new_at = λ (at : ℕ). let v : MatchesValue = record {
