@@ -77,7 +77,7 @@ BYTES = re.compile(r"\b([a-z]\w*)\s*:[^,):]*(?:\[u8\]|\bVec<u8>|\bstr\b)")
 
 # The types that may keep a slice of bytes: a haystack, patterns, or what C hands over of either.
 KEEPERS = (
-    "FindIter", "Matches", "PreparedMatches", "PreparedShortMatches", "OverlappingMatches",
+    "FindIter", "Matches", "ShortMatches", "PreparedMatches", "PreparedShortMatches", "OverlappingMatches",
     "PreparedOverlappingMatches", "Input", "Pattern", "SearchRequest", "Pieces", "AnySearch", "WordText",
     "WordMatchesBySides", "PreparedWordMatchesBySides",
 )

@@ -28,6 +28,7 @@ use crate::patterns::Patterns;
 use crate::prepared::ArrayTooShort;
 use crate::prepared_search::backward_in;
 use crate::shadowed::{backward_rows, links_for};
+use crate::short_span::{SHORT_SPAN, ShortCursor};
 use crate::word_search::earlier;
 use crate::{BuildError, copies, push_copy, shortest_len, total_bytes};
 use literal_base::count::Tally;
@@ -335,12 +336,34 @@ impl Search {
         ensures least { IfOk result (λ _. tally.old.scanned + (span.end - span.start) ≤ tally.new.scanned) }
         ensures no_memory { OnErr result (MayRefuseList self.now haystack.now span) }
     {
-        let mut all = Vec::new(self.allocator());
-        let mut matches = self.find_iter_in(haystack, span);
-        while let Some(found) = matches.next_counted(tally) {
-            all.push(found)?;
+        if span.end - span.start <= SHORT_SPAN {
+            let matches = self.find_iter_in_short(haystack, span);
+            return list_of(self.allocator(), matches, tally);
         }
-        Ok(all)
+        list_of(self.allocator(), self.find_iter_in(haystack, span), tally)
+    }
+
+    /// The same as [`Search::find_iter_in`] for a short span, with marks for such a span alone.
+    #[inline(always)]
+    fn find_iter_in_short<'s, 'h>(&'s self, haystack: &'h [u8], span: Span) -> ShortMatches<'s, 'h>
+        requires valid { IsValidSpan haystack.now span }
+        requires short { span.end - span.start ≤ SHORT_SPAN }
+        ensures { result ≡ record {
+          search = self.now;
+          haystack = haystack.now;
+          span = span;
+          at = span.start;
+          look_ups = no_look_ups;
+        } }
+    {
+        prove!(span.end <= haystack.len());
+        ShortMatches {
+            parts: &self.parts,
+            backward: self.parts.backward(),
+            haystack,
+            span,
+            cursor: ShortCursor::new(span),
+        }
     }
 
     /// Writes the search into the first entries of an array, for [`Prepared`](crate::Prepared), and returns their
@@ -613,6 +636,99 @@ impl<'s, 'h> Iterator for Matches<'s, 'h> {
     fn next(&mut self) -> Option<Match> {
         self.next_counted(&mut Tally::new())
     }
+}
+
+/// The iteration of a list over a short span. Contracts see the same as of [`Matches`].
+#[derive(Drop)]
+struct ShortMatches<'s, 'h> {
+    parts: &'s Parts,
+    backward: Backward<'s>,
+    haystack: &'h [u8],
+    span: Span,
+    cursor: ShortCursor,
+}
+
+impl<'s, 'h> Model for ShortMatches<'s, 'h> {
+    ghost use Rattle.literal_search.specs.MatchesValue.{MatchesValue};
+    ghost use Rattle.literal_search.specs.Inside.Cursor.{cursor_by, look_ups_of};
+    ghost use Rattle.literal_search.specs.Inside.Search.{GoesOn, search_value};
+
+    ghost Value = { MatchesValue };
+
+    ghost view = { λ m. record {
+      search = search_value m.parts.now;
+      haystack = m.haystack.now;
+      span = m.span;
+      at = m.cursor.at;
+      look_ups = look_ups_of m.backward.table.longest m.span (cursor_by m.cursor);
+    } };
+
+    ghost invariant = { λ m. GoesOn m.parts.now m.backward m.haystack.now m.span (cursor_by m.cursor) };
+}
+
+/// An iteration over matches that counts what it looks up.
+trait CountedMatches {
+    ghost use Rattle.literal_search.specs.LookUps.{ScansNext};
+    ghost use Rattle.literal_search.specs.MatchesValue.{GivesMatch, MatchesValue};
+
+    /// The iteration as contracts see it.
+    ghost seen: { Self → MatchesValue };
+
+    /// The next match.
+    fn next_match(&mut self, tally: &mut Tally) -> Option<Match>
+        ensures gives { GivesMatch (seen self.old) result (seen self.new) }
+        ensures scans { ScansNext (seen self.old).look_ups (seen self.new).look_ups tally.old tally.new };
+}
+
+impl CountedMatches for Matches<'_, '_> {
+    ghost seen = { λ matches. matches };
+
+    #[inline(always)]
+    fn next_match(&mut self, tally: &mut Tally) -> Option<Match> {
+        self.next_counted(tally)
+    }
+}
+
+impl CountedMatches for ShortMatches<'_, '_> {
+    ghost seen = { λ matches. matches };
+
+    #[inline(always)]
+    fn next_match(&mut self, tally: &mut Tally) -> Option<Match> {
+        let (haystack, span) = (self.haystack, self.span);
+        let next = self
+            .backward
+            .next_in_short(haystack, span, &mut self.cursor, tally);
+        let Ok(answer) = next else {
+            unreachable!();
+        };
+        answer
+    }
+}
+
+/// The list of the matches that an iteration gives, which has not begun.
+#[inline(always)]
+fn list_of<M: CountedMatches + Drop>(
+    alloc: Global,
+    mut matches: M,
+    tally: &mut Tally,
+) -> Result<Vec<Match>, AllocError>
+    requires begins { (M.seen matches).at ≡ (M.seen matches).span.start }
+    requires ordered { (M.seen matches).span.start ≤ (M.seen matches).span.end }
+    requires none { (M.seen matches).look_ups ≡ no_look_ups }
+    ensures greedy { IfOk result (λ all. IsGreedyIn (M.seen matches).search.query (M.seen matches).search.ignore_case
+        (M.seen matches).haystack (M.seen matches).span all.items) }
+    ensures bounded { ScansListAtMost (M.seen matches).search.query.patterns
+        ((M.seen matches).span.end - (M.seen matches).span.start) tally.old tally.new }
+    ensures least { IfOk result (λ _. tally.old.scanned
+        + ((M.seen matches).span.end - (M.seen matches).span.start) ≤ tally.new.scanned) }
+    ensures no_memory { OnErr result
+        (MayRefuseList (M.seen matches).search (M.seen matches).haystack (M.seen matches).span) }
+{
+    let mut all = Vec::new(alloc);
+    while let Some(found) = matches.next_match(tally) {
+        all.push(found)?;
+    }
+    Ok(all)
 }
 
 /// The iterator of [`Search::starts_in`]. Contracts see the same as of [`Matches`], but after a match it continues one
