@@ -694,10 +694,9 @@ impl CountedMatches for ShortMatches<'_, '_> {
 
     #[inline(always)]
     fn next_match(&mut self, tally: &mut Tally) -> Option<Match> {
-        let (haystack, span) = (self.haystack, self.span);
         let next = self
             .backward
-            .next_in_short(haystack, span, &mut self.cursor, tally);
+            .next_in_short(self.haystack, self.span, &mut self.cursor, tally);
         let Ok(answer) = next else {
             unreachable!();
         };
