@@ -54,12 +54,16 @@ fn counts_by_an_array(rt: HostRuntime) -> Result<(), Fail> {
 }
 
 /// The first answers of iterations by the array, in the same part.
-fn iterated(array: &[u32]) -> Result<[Option<Match>; 2], Fail> {
+fn iterated(array: &[u32]) -> Result<[Option<Match>; 4], Fail> {
     let (prepared, span) = (Prepared::new(array)?, Span { start: 3, end: 18 });
     Ok([
         prepared.find_iter_in(HAYSTACK, span).next_match()?,
         prepared
             .find_iter_in(HAYSTACK, span)
+            .next_counted(&mut Tally::new())?,
+        prepared.find_iter_in_short(HAYSTACK, span).next_match()?,
+        prepared
+            .find_iter_in_short(HAYSTACK, span)
             .next_counted(&mut Tally::new())?,
     ])
 }
@@ -67,7 +71,7 @@ fn iterated(array: &[u32]) -> Result<[Option<Match>; 2], Fail> {
 #[test]
 fn finds_one_after_another_by_an_array(rt: HostRuntime) -> Result<(), Fail> {
     let array = filled(rt.alloc())?;
-    assert!(rt; iterated(&array)? == [second(); 2]);
+    assert!(rt; iterated(&array)? == [second(); 4]);
     Ok(())
 }
 
