@@ -12,7 +12,6 @@ ghost use Rattle.literal_search.specs.declared.backward.Continuation.{Continuati
 
 use crate::backward::{Backward, Continuation, LEAST, Marks, no_marks, offset_after};
 use crate::prepared::Damaged;
-use crate::short_span::SHORT_SPAN;
 use crate::trail::Trail;
 use literal_base::count::Tally;
 use literal_base::{Match, Span};
@@ -26,12 +25,9 @@ pub struct Cursor {
     pub room: Room,
 }
 
-/// Room for marks. All of it is cleared, whatever the variant, so short spans also have a
-/// [`ShortCursor`](crate::short_span::ShortCursor).
+/// Room for marks.
 #[derive(Clone, Copy)]
 pub enum Room {
-    /// For the marks of a short span.
-    Line([u32; SHORT_SPAN]),
     /// For those of a block. No pattern is longer, unless the span is not.
     Block([u32; LEAST]),
     /// For those of a step, and the trail of a block.
@@ -39,8 +35,8 @@ pub enum Room {
 }
 
 impl Cursor {
-    /// The state of an iteration that has not begun, with room for a line. It is completed in place by
-    /// [`Cursor::make_room`]: to move larger room would cost more than a search of a line.
+    /// The state of an iteration that has not begun, with room for a block. It is completed in place by
+    /// [`Cursor::make_room`]: to move room would cost more than a search of a line.
     #[inline(always)]
     pub fn new(at: usize) -> Cursor
         ensures { HasNotBegun at result }
@@ -48,7 +44,7 @@ impl Cursor {
         Cursor {
             at,
             marks: no_marks(at),
-            room: Room::Line([0; SHORT_SPAN]),
+            room: Room::Block([0; LEAST]),
         }
     }
 
@@ -62,13 +58,7 @@ impl Cursor {
         ensures at { self.new.at ≡ span.start }
         ensures none { look_ups_of longest span self.new ≡ no_look_ups }
     {
-        let len = span.end - span.start;
-        if len <= SHORT_SPAN {
-            return;
-        }
-        if len <= LEAST || longest <= LEAST {
-            self.room = Room::Block([0; LEAST]);
-        } else {
+        if longest > LEAST && span.end - span.start > LEAST {
             self.room = Room::Trailed(Trail::new(span.start));
         }
     }
@@ -84,7 +74,6 @@ impl Cursor {
         self.at = end;
         self.marks = no_marks(end);
         match &mut self.room {
-            Room::Line(_) => {}
             Room::Block(_) => {}
             Room::Trailed(trail) => trail.block = Span { start: end, end },
         }
@@ -162,7 +151,6 @@ impl<'t> Backward<'t> {
         ensures ended { at ≡ span.end → IsOkAnd result (λ answer. answer ≡ None) }
     {
         match room {
-            Room::Line(numbers) => self.next_match(haystack, span, at, numbers, marks, tally),
             Room::Block(numbers) => self.next_match(haystack, span, at, numbers, marks, tally),
             Room::Trailed(trail) => self.next_far(haystack, span, at, trail, marks, tally),
         }

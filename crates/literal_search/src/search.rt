@@ -650,8 +650,10 @@ struct ShortMatches<'s, 'h> {
 
 impl<'s, 'h> Model for ShortMatches<'s, 'h> {
     ghost use Rattle.literal_search.specs.MatchesValue.{MatchesValue};
+    ghost use Rattle.std.specs.Prelude.{◌-◌, ◌≤◌};
     ghost use Rattle.literal_search.specs.Inside.Cursor.{cursor_by, look_ups_of};
     ghost use Rattle.literal_search.specs.Inside.Search.{GoesOn, search_value};
+    ghost use Rattle.literal_search.specs.declared.short_span.TheConstants.{SHORT_SPAN};
 
     ghost Value = { MatchesValue };
 
@@ -663,7 +665,8 @@ impl<'s, 'h> Model for ShortMatches<'s, 'h> {
       look_ups = look_ups_of m.backward.table.longest m.span (cursor_by m.cursor);
     } };
 
-    ghost invariant = { λ m. GoesOn m.parts.now m.backward m.haystack.now m.span (cursor_by m.cursor) };
+    ghost invariant = { λ m. (m.span.end - m.span.start ≤ SHORT_SPAN)
+        × GoesOn m.parts.now m.backward m.haystack.now m.span (cursor_by m.cursor) };
 }
 
 /// An iteration over matches that counts what it looks up.

@@ -71,6 +71,7 @@ impl<'t> Backward<'t> {
     ) -> Result<Option<Match>, Damaged>
         requires safe { IsSafe self.now }
         requires valid { IsValidSpan haystack.now span }
+        requires short { span.end - span.start ≤ SHORT_SPAN }
         requires cursor { IsCursor self.now.table.longest span (cursor_by cursor.old) }
         ensures leftmost { ForBackward self.now (λ tables. KnowsAhead tables haystack.now span (cursor_by cursor.old)
             → IsOkAnd result (IsLeftmost tables.search.query tables.search.ignore_case haystack.now

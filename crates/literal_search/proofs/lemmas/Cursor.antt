@@ -6,7 +6,7 @@ use Rattle.literal_base.specs.declared.search.Span.{Span}
 use Rattle.literal_search.specs.Inside.Backward.{IsPlaced}
 use Rattle.literal_search.specs.Inside.Cursor.{FitsIn, IsIn, looked_far, looked_short}
 use Rattle.literal_search.specs.declared.cursor.Room.{Room}
-use Rattle.literal_search.specs.declared.cursor.Room.TheVariants.{Block, Line, Trailed}
+use Rattle.literal_search.specs.declared.cursor.Room.TheVariants.{Block, Trailed}
 use Rattle.literal_search.specs.Inside.Trail.{IsFar, led_to, paid_by}
 use Rattle.literal_search.specs.LookUps.{LookUps, LooksOn, ScansNext, ScansRest, no_look_ups}
 use Rattle.literal_search.specs.SearchValue.{ScansThrice, looked_by}
@@ -128,6 +128,5 @@ module _ (longest : ℕ) (span : Span) where
 -- an iteration has the room that its span needs
 pub fits : (longest : ℕ) (span : Span) (at : ℕ) (m : Marks) (room : Room) → IsIn longest span at m room
     → FitsIn longest span room
-fits longest span at m (Line numbers) is = is.room
 fits longest span at m (Block numbers) is = is.room
 fits longest span at m (Trailed trail) is = tt

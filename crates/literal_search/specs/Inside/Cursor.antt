@@ -12,8 +12,7 @@ use Rattle.literal_search.specs.declared.cursor.Cursor.{Cursor}
 use Rattle.literal_search.specs.declared.trail.Trail.{Trail}
 use Rattle.literal_search.specs.declared.cursor.Room.{Room}
 use Rattle.literal_search.specs.declared.short_span.ShortCursor.{ShortCursor}
-use Rattle.literal_search.specs.declared.short_span.TheConstants.{SHORT_SPAN}
-use Rattle.literal_search.specs.declared.cursor.Room.TheVariants.{Block, Line, Trailed}
+use Rattle.literal_search.specs.declared.cursor.Room.TheVariants.{Block, Trailed}
 
 -- marks that are in a list of some length, which has room for those of a block
 pub record HasRoom (longest : ℕ) (span : Span) (at : ℕ) (m : Marks) (len : ℕ) : Type 0 where
@@ -22,13 +21,11 @@ pub record HasRoom (longest : ℕ) (span : Span) (at : ℕ) (m : Marks) (len : �
 
 -- an iteration continues at `at`, with marks in such a room
 abbrev pub IsIn : ℕ → Span → ℕ → Marks → Room → Type 0
-IsIn longest span at m (Line numbers) = HasRoom longest span at m SHORT_SPAN
 IsIn longest span at m (Block numbers) = HasRoom longest span at m LEAST
 IsIn longest span at m (Trailed trail) = IsFar longest span at trail m
 
 -- the room is large enough for marks in a span
 abbrev pub FitsIn : ℕ → Span → Room → Type 0
-FitsIn longest span (Line numbers) = room_for longest span ≤ SHORT_SPAN
 FitsIn longest span (Block numbers) = room_for longest span ≤ LEAST
 FitsIn longest span (Trailed trail) = ⊤
 
@@ -38,7 +35,6 @@ IsCursor longest span c = IsIn longest span c.at c.marks c.room
 
 -- the marks say what begins where the iteration continues
 abbrev pub AreKnown : BackTables → List ℕ → Span → ℕ → Marks → Room → Type 0
-AreKnown p haystack span at m (Line numbers) = AreMarked p haystack span at numbers m
 AreKnown p haystack span at m (Block numbers) = AreMarked p haystack span at numbers m
 AreKnown p haystack span at m (Trailed trail) = AreTrailed p haystack span at trail m
 
@@ -60,7 +56,6 @@ looked_far longest span t m = record {
 
 -- the same in a room
 abbrev pub looked_in : ℕ → Span → Marks → Room → LookUps
-looked_in longest span m (Line numbers) = looked_short longest span m
 looked_in longest span m (Block numbers) = looked_short longest span m
 looked_in longest span m (Trailed trail) = looked_far longest span trail m
 
@@ -70,16 +65,15 @@ look_ups_of longest span c = looked_in longest span c.marks c.room
 
 -- the state of an iteration over a short span, as one over any span
 abbrev pub cursor_by : ShortCursor → Cursor
-cursor_by c = record { at = c.at; marks = c.marks; room = Line c.numbers }
+cursor_by c = record { at = c.at; marks = c.marks; room = Block c.numbers }
 
--- a room for a line
-abbrev pub IsLine : Room → Type 0
-IsLine (Line numbers) = ⊤
-IsLine (Block numbers) = ⊥
-IsLine (Trailed trail) = ⊥
+-- a room for a block
+abbrev pub IsBlock : Room → Type 0
+IsBlock (Block numbers) = ⊤
+IsBlock (Trailed trail) = ⊥
 
--- an iteration has not begun, and has room for a line
+-- an iteration has not begun, and has room for a block
 pub record HasNotBegun (at : ℕ) (c : Cursor) : Type 0 where
   pub at_is : c.at ≡ at
   pub marks : c.marks ≡ record { first = at; upto = at; known = at; part = 0 }
-  pub line : IsLine c.room
+  pub block : IsBlock c.room

@@ -2,47 +2,26 @@ use Rattle.literal_search.specs.Inside.Backward.{offset_by}
 use Rattle.literal_search.proofs.lemmas.Cursor.{far_looks, far_rest, far_scans, ok_both, ok_on, short_looks, short_rest}
 use Rattle.literal_search.proofs.backward.Backward.next_by.Goals as goal
 
-pub returns-in-Line-clause-placed : goal.returns-in-Line-clause-placed
-returns-in-Line-clause-placed c = λ on.
-    let before = rw c.in-Line.is at c.requires.placed in
-    ok_on _ _ c.next_match.result (λ answer placed. record { placed = placed; room = before.room })
-    (c.next_match.ensures.placed on)
-
-pub returns-in-Line-clause-looks : goal.returns-in-Line-clause-looks
-returns-in-Line-clause-looks c = λ on.
-    let before = rw c.in-Line.is at c.requires.placed in
-    rw c.in-Line.is (ok_on _ _ c.next_match.result (λ answer placed. short_looks c.args.self.now.table.longest
-    c.args.span c.args.at (offset_by on c.args.span answer) c.args.marks.now c.next_match.new.marks before.placed placed
-    c.next_match.ensures.further.0) (c.next_match.ensures.placed on))
-
-pub returns-in-Line-clause-rest : goal.returns-in-Line-clause-rest
-returns-in-Line-clause-rest c =
-    let before = rw c.in-Line.is at c.requires.placed in
-    let told = c.next_match.ensures in
-    rw c.in-Line.is (short_rest c.args.self.now.table.longest c.args.span c.args.at c.args.marks.now
-    c.next_match.new.marks.known c.args.tally.now c.next_match.new.tally before.placed told.further.0 told.further.1
-    told.bounded)
-
 pub returns-in-Block-clause-placed : goal.returns-in-Block-clause-placed
 returns-in-Block-clause-placed c = λ on.
     let before = rw c.in-Block.is at c.requires.placed in
-    ok_on _ _ c.next_match-in-Block.result (λ answer placed. record { placed = placed; room = before.room })
-    (c.next_match-in-Block.ensures.placed on)
+    ok_on _ _ c.next_match.result (λ answer placed. record { placed = placed; room = before.room })
+    (c.next_match.ensures.placed on)
 
 pub returns-in-Block-clause-looks : goal.returns-in-Block-clause-looks
 returns-in-Block-clause-looks c = λ on.
     let before = rw c.in-Block.is at c.requires.placed in
-    rw c.in-Block.is (ok_on _ _ c.next_match-in-Block.result (λ answer placed. short_looks
+    rw c.in-Block.is (ok_on _ _ c.next_match.result (λ answer placed. short_looks
     c.args.self.now.table.longest c.args.span c.args.at (offset_by on c.args.span answer) c.args.marks.now
-    c.next_match-in-Block.new.marks before.placed placed
-    c.next_match-in-Block.ensures.further.0) (c.next_match-in-Block.ensures.placed on))
+    c.next_match.new.marks before.placed placed
+    c.next_match.ensures.further.0) (c.next_match.ensures.placed on))
 
 pub returns-in-Block-clause-rest : goal.returns-in-Block-clause-rest
 returns-in-Block-clause-rest c =
     let before = rw c.in-Block.is at c.requires.placed in
-    let told = c.next_match-in-Block.ensures in
+    let told = c.next_match.ensures in
     rw c.in-Block.is (short_rest c.args.self.now.table.longest c.args.span c.args.at c.args.marks.now
-    c.next_match-in-Block.new.marks.known c.args.tally.now c.next_match-in-Block.new.tally before.placed told.further.0
+    c.next_match.new.marks.known c.args.tally.now c.next_match.new.tally before.placed told.further.0
     told.further.1
     told.bounded)
 

@@ -3,7 +3,7 @@ use Rattle.literal_search.specs.Inside.Backward.{AreMarked, back_tables_by}
 use Rattle.literal_search.specs.Inside.Cursor.{HasRoom, looked_short}
 use Rattle.literal_search.specs.LookUps.{LooksOn}
 use Rattle.literal_search.specs.declared.backward.Continuation.TheVariants.{AtEnd}
-use Rattle.literal_search.specs.declared.short_span.TheConstants.{SHORT_SPAN}
+use Rattle.literal_search.specs.declared.backward.TheConstants.{LEAST}
 use Rattle.literal_search.proofs.lemmas.Cursor.{short_looks, short_rest}
 use Rattle.literal_search.proofs.backward.Backward.next_in_short.Goals as goal
 
@@ -22,7 +22,7 @@ returns-clause-knows c = λ search is knows.
 
 pub returns-clause-cursor : goal.returns-clause-cursor
 returns-clause-cursor c =
-    subst (λ (at : ℕ). HasRoom c.args.self.now.table.longest c.args.span at c.next_match.new.marks SHORT_SPAN)
+    subst (λ (at : ℕ). HasRoom c.args.self.now.table.longest c.args.span at c.next_match.new.marks LEAST)
     (sym c.offset_after.ensures)
     (record { placed = c.in_ok-answer.ensures.placed AtEnd; room = c.requires.cursor.room })
 

@@ -9,26 +9,28 @@ use Rattle.literal_search.proofs.search.ShortMatchesCountedMatches.next_match.Go
 
 pub unreachable-requires : goal.unreachable-requires
 unreachable-requires c =
-    let goes_on = c.self.invariant in
+    let goes_on = c.self.invariant.1 in
     c.in_default.ensures.leftmost (search_value c.self.inside.parts.now) goes_on.is_for goes_on.knows
 
 pub invariant_of-self : goal.invariant_of-self
 invariant_of-self c =
-    let goes_on = c.self.invariant in
-    let told = c.in-Ok.ensures in
-    record {
-      are = goes_on.are;
-      valid = goes_on.valid;
-      safe = goes_on.safe;
-      is_for = goes_on.is_for;
-      cursor = told.cursor;
-      knows = told.knows (search_value c.self.inside.parts.now) goes_on.is_for goes_on.knows;
-    }
+    let goes_on = c.self.invariant.1 in
+    let told = c.in-Ok.ensures in (
+      c.self.invariant.0,
+      record {
+        are = goes_on.are;
+        valid = goes_on.valid;
+        safe = goes_on.safe;
+        is_for = goes_on.is_for;
+        cursor = told.cursor;
+        knows = told.knows (search_value c.self.inside.parts.now) goes_on.is_for goes_on.knows;
+      },
+    )
 
 pub returns-clause-gives : goal.returns-clause-gives
 returns-clause-gives c =
     let m = c.self.inside in
-    let goes_on = c.self.invariant in
+    let goes_on = c.self.invariant.1 in
     let told = c.in-Ok.ensures in
     let cursor = cursor_by c.next_in_short-next.new.cursor in
     let longest = m.backward.table.longest in
