@@ -1,5 +1,6 @@
 //! A long pattern, many patterns, and long haystacks. The time of each search is bounded by the counts in its contract.
-ghost use Rattle.std.specs.Prelude.{◌+◌, ◌≤◌};
+ghost use Rattle.std.specs.Prelude.{◌+◌, ◌<◌, ◌≤◌};
+ghost use Rattle.literal_search.specs.SearchValue.{longest_of};
 
 use crate::asserted::assert_same;
 use crate::chosen::assert_confirms;
@@ -134,13 +135,16 @@ fn find_counted(search: &Search, haystack: &[u8; 10_000], tally: &mut Tally) -> 
     search.find_in_counted(haystack, Span { start, end }, tally)
 }
 
-/// All matches in these bytes. For any number of matches, it looks up at most three times as many bytes.
+/// All matches in these bytes. For any number of matches, it looks up at most three times as many bytes, if no pattern
+/// has 262,000 bytes.
+#[tactic(auto, using(literal_search::proofs::lemmas::Passes::just_thrice))]
 fn find_all_counted(
     search: &Search,
     haystack: &[u8; 10_000],
     tally: &mut Tally,
 ) -> Result<Vec<Match>, AllocError>
-    ensures { tally.new.scanned ≤ tally.old.scanned + 30_000 }
+    ensures { longest_of search.now.query.patterns < 262_000
+        → tally.new.scanned ≤ tally.old.scanned + 30_000 }
 {
     let (start, end) = (0, 10_000);
     search.find_all_in_counted(haystack, Span { start, end }, tally)
