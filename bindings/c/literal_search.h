@@ -42,13 +42,13 @@
  * versions of the library, an array of the other version is LITERAL_DAMAGED: its first number is the format. Then
  * prepare the search again.
  *
- * A call looks up at most three times the bytes to search. A call for all matches, or their count, may look up each byte
- * once more for each whole 262,000 bytes of the longest pattern. A call for the leftmost match that finds one also looks
- * up at most eleven times the bytes before it, and 576 more, or 108 more than 18 times the length of the longest
- * pattern, whichever is more.
+ * A call looks up at most three times the bytes to search. A call for all matches, or their count, may look up each
+ * byte once more for each whole 262,000 bytes of the longest pattern. A call for the leftmost match that finds one has
+ * a second bound: at most eleven times the bytes before the match, and 576 more, or 18 times the length of the longest
+ * pattern and 108 more, whichever is more.
  *
- * A call for whole words also looks up, for each offset at which a pattern begins, at most one byte more than the longest
- * pattern has. These bounds are proved of the searches that the calls make, and not of the calls themselves.
+ * For each offset at which a pattern begins, a call for whole words looks up more bytes: at most one more than the
+ * longest pattern has. These bounds are proved of the searches that the calls make, and not of the calls themselves.
  *
  * Each call checks its arguments and returns one of the statuses below. It checks in this order: LITERAL_BAD_ARGUMENTS,
  * LITERAL_NO_SEARCHER, then, while the search is built, LITERAL_OUT_OF_MEMORY and LITERAL_TOO_LARGE, then
@@ -126,9 +126,9 @@ typedef struct literal_match {
 } literal_match;
 
 /* The result of a call that finds all: how many matches it wrote, the offset where the search goes on, and 1 if no
- * match is left from there on, else 0. With 1 the offset is the end of the last match, or where the page began if there
- * is none. With 0 the next match begins there; for every occurrence, the offset is the end of the last one in any case.
- * literal_find_all_so_far_in says what the last two are in a text that comes in pieces. */
+ * match is left from there on, else 0. If is_last is 1, next is the end of the last match, or the start of the page if
+ * it has no match. If is_last is 0, the next match begins at next. In a page of every occurrence, next is always the
+ * end of the last one. literal_find_all_so_far_in says what they are in a text that comes in pieces. */
 typedef struct literal_page {
     size_t written;
     size_t next;
@@ -136,8 +136,8 @@ typedef struct literal_page {
 } literal_page;
 
 /* What an array was prepared for: the number of patterns, the lengths of the shortest and of the longest one (0 without
- * patterns), 1 for literal_prepare_overlapping, 0 for literal_prepare, and for the latter the kind of match, else 0. An
- * array does not tell whether case is ignored. */
+ * patterns), whether (1) or not (0) literal_prepare_overlapping wrote it, and the kind of match if literal_prepare did,
+ * else 0. An array does not tell whether case is ignored. */
 typedef struct literal_info {
     size_t patterns;
     size_t shortest;
@@ -208,9 +208,9 @@ int32_t literal_find(uint32_t kind, uint32_t ignore_case, const uint8_t *pattern
  * shorter haystack_len.
  *
  * After its last match a page looks for the next one: page->next is its start, so that the next page reads no bytes
- * before it again. A page may also look up some 2,000 bytes after that, which the next page looks up again. If a pattern
- * has more than 1,024 bytes, these are up to twice as many as the page and that pattern have. So provide room for
- * hundreds of matches if there are many; for a single match literal_find is faster.
+ * before it again. A page may also look up bytes after that offset, which the next page looks up again: some 2,000, or,
+ * if a pattern has more than 1,024 bytes, up to twice the length of the page and of that pattern together. So provide
+ * room for hundreds of matches if there are many; for a single match literal_find is faster.
  *
  * LITERAL_OK             found and page are written, also if no pattern occurs (then page->written is 0)
  * LITERAL_BAD_ARGUMENTS  from is above haystack_len, or found_len is 0: a loop over such pages would never end */

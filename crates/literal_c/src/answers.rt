@@ -83,7 +83,7 @@ pub fn write_page<M: LeftmostMatches + Drop>(
     Ok(page)
 }
 
-/// Writes the matches in a span of a haystack, by an iteration that takes no more memory than the span needs.
+/// Writes the matches in a span of a haystack. A short span has an iteration that clears less memory.
 pub fn page_in(
     search: &Prepared<'_>,
     haystack: &[u8],

@@ -1,4 +1,4 @@
-//! The state of an iteration between two matches. All lists, counts and iterations go on by it.
+//! The state of an iteration between two matches. Lists of short spans have a smaller one (`short_span`).
 ghost use Rattle.std.specs.Prelude.{◌≡◌, ◌≤◌, ℕ, List, IfOk, IfSome, None, OnErr};
 ghost use Rattle.std.specs.Result.{IsOkAnd};
 ghost use Rattle.literal_base.specs.Leftmost.{IsLeftmost};
@@ -36,7 +36,7 @@ pub enum Room {
 
 impl Cursor {
     /// The state of an iteration that has not begun, with room for a block. It is completed in place by
-    /// [`Cursor::make_room`]: to move room would cost more than a search of a line.
+    /// [`Cursor::make_room`]: moving the room would cost more than a search of a line.
     #[inline(always)]
     pub fn new(at: usize) -> Cursor
         ensures { HasNotBegun at result }

@@ -1,11 +1,11 @@
 //! The search for leftmost matches of any number of patterns.
 ghost use Rattle.std.specs.Prelude.{◌≡◌, ◌+◌, ◌-◌, ◌*◌, ◌<◌, ◌≤◌, ◌^◌, ◌↔◌, ◌++◌, ◌∷◌, [], ℕ, length, map, reverse};
-ghost use Rattle.std.specs.Prelude.{IfErr, IfOk, IfSome, IsTrue, MatchOption, OnErr, max};
+ghost use Rattle.std.specs.Prelude.{IfErr, IfOk, IfSome, IsTrue, MatchOption, OnErr};
 ghost use Rattle.std.specs.List.{repeat};
 ghost use Rattle.literal_base.specs.Given.{CanBeTaken};
 ghost use Rattle.literal_base.specs.Greedy.{IsGreedy, IsGreedyIn};
 ghost use Rattle.literal_base.specs.Leftmost.{IsLeftmost};
-ghost use Rattle.literal_base.specs.Occurs.{IsValidSpan, NothingOccurs, Occurs, between, one_occurs, pattern_at};
+ghost use Rattle.literal_base.specs.Occurs.{IsValidSpan, Occurs, between, one_occurs, pattern_at};
 ghost use Rattle.literal_base.specs.Occurs.{rest_from, whole_of};
 ghost use Rattle.literal_base.specs.declared.packed.MatchKind.TheVariants.{LeftmostLongest};
 ghost use Rattle.literal_search.specs.At.{IsMatchAt, IsMatchIn, IsNextInList, ScansAt};
@@ -17,7 +17,7 @@ ghost use Rattle.literal_search.specs.MatchesValue.{GivesMatch, GivesStart, Give
 ghost use Rattle.literal_search.specs.Memory.{TakesBytes};
 ghost use Rattle.literal_search.specs.Prepared.{AreShort, RefusesToPrepare, TakesPlaces, WritesPrepared, longest_in};
 ghost use Rattle.literal_search.specs.Inside.Backward.{AreBackFor, IsSafe, back_tables_by, offset_by};
-ghost use Rattle.literal_search.specs.Inside.Search.{AreKept, AreParts, patterns_of, search_value, tables_of};
+ghost use Rattle.literal_search.specs.Inside.Search.{AreKept, AreParts, search_value, tables_of};
 
 use crate::backward::{Backward, Continuation};
 use crate::classes::classes_for;
@@ -243,7 +243,7 @@ impl Search {
 
     /// The same in a span of the haystack. Each match lies whole in the span. All offsets are in bytes of the whole
     /// haystack. The span has to be valid: `start` is at most `end`, and `end` at most the haystack's length. It
-    /// allocates nothing: the iterator itself takes 4 KiB.
+    /// allocates nothing: the iterator itself takes a little more than 4 KiB.
     pub fn find_iter_in<'s, 'h>(&'s self, haystack: &'h [u8], span: Span) -> Matches<'s, 'h>
         requires { IsValidSpan haystack.now span }
         ensures { result ≡ record {

@@ -4,10 +4,12 @@ ghost use Rattle.std.specs.Prelude.{IfOk, IfSome, MatchOption, MatchResult, max}
 ghost use Rattle.std.specs.Io.KnownBytes.{Consumes};
 ghost use Rattle.literal_base.specs.Leftmost.{IsLeftmost};
 ghost use Rattle.literal_base.specs.Occurs.{NoneIsEmpty, between};
+ghost use Rattle.literal_base.specs.MatchValue.{MatchValue};
 ghost use Rattle.literal_base.specs.Query.{Query};
 ghost use Rattle.literal_search.specs.Prepared.{LiesIn};
 ghost use Rattle.literal_search.specs.SearchValue.{SearchValue, longest_of};
 ghost use Rattle.literal_search.specs.declared.sought.Sought.{Sought};
+ghost use Rattle.literal_search.specs.declared.stream.SoFar.TheVariants.{Found};
 ghost use Rattle.literal_search.specs.Stream.{AnswersSoFar, EndsFailed, EndsWhole, GivesAhead, GoesBehind, IsKnownBy};
 ghost use Rattle.literal_search.specs.Stream.{IsKnownSoFar, ScansSoFar, stream_of, told_to};
 ghost use Rattle.literal_search.specs.Inside.Stream.{Answers, AnswersAhead, AreHeldFrom, AreTablesOf, Begins};
@@ -310,6 +312,7 @@ pub(crate) fn next_known<R: Read>(
         (window.new.offset + length (held window.new)) result }
     ensures further { IsOpen reading.new → at < told_to result }
     ensures search { IsSearchIn sought.entry window.new (told_to result) ahead.new }
+    ensures goes_on { (found : MatchValue) → result ≡ Found found → ahead.new.is_begun ≡ true }
     ensures not_empty { NoneIsEmpty (search_of sought.entry).query.patterns }
 {
     let reach = sought.reach();
@@ -351,6 +354,9 @@ fn go_on<R: Read>(
     ensures search { (sought : Sought) → IsSearchIn sought window.old at ahead.old
         → IsSearchIn sought window.new at ahead.new }
     ensures begun { ahead.new.is_begun ≡ true }
+    ensures stays { ahead.old.is_begun ≡ true
+        → at + max reach 1 ≤ window.old.offset + length (held window.old)
+        → (window.new ≡ window.old) × (ahead.new ≡ ahead.old) }
     ensures enough { IsOpen reading.new → at + max reach 1 ≤ window.new.offset + length (held window.new) }
 {
     let known = window.offset + window.held().len();
@@ -382,6 +388,7 @@ fn first_known(
         → Answers sought.entry (haystack.now ++ more) from result }
     ensures known { IsFirstKnown (reach_of sought.entry) is_whole from (length haystack.now) result }
     ensures words { ahead.new.words ≡ ahead.old.words }
+    ensures begun { ahead.new.is_begun ≡ ahead.old.is_begun }
     ensures through { GoesOnAfter sought.entry haystack.now ahead.new result }
 {
     let end = haystack.len();

@@ -1,6 +1,6 @@
 //! Marks for patterns that are longer than a block, in little memory. A backward walk through a long block leaves a
 //! trail: its row at the end of each step. From there a step can be walked through again.
-ghost use Rattle.std.specs.Prelude.{◌≡◌, ◌+◌, ◌-◌, ◌*◌, ◌<◌, ◌≤◌, ◌^◌, ◌%◌, ◌⊎◌, ℕ, length, min, false};
+ghost use Rattle.std.specs.Prelude.{◌≡◌, ◌+◌, ◌-◌, ◌*◌, ◌<◌, ◌≤◌, ◌^◌, ◌%◌, ◌⊎◌, ℕ, length, min};
 ghost use Rattle.std.specs.Prelude.{IfOk, IfSome, None};
 ghost use Rattle.std.specs.Result.{IsOkAnd};
 ghost use Rattle.literal_base.specs.Leftmost.{IsLeftmost};
@@ -47,7 +47,7 @@ impl Trail {
     }
 }
 
-/// What a walk came to that went through a part of a span.
+/// The result of a walk through a part of a span.
 #[derive(Clone, Copy)]
 pub struct Crossed {
     /// Its row at the part's start.
@@ -467,6 +467,7 @@ fn cell_of(row: usize, most: u32) -> u32
     requires small { row < 2 ^ 31 }
     ensures row { result % 2 ^ 31 ≡ row }
     ensures none { result < 2 ^ 31 → most < 2 ^ 31 }
+    ensures some { most < 2 ^ 31 → result < 2 ^ 31 }
 {
     if most >= ENDS {
         row as u32 + ENDS

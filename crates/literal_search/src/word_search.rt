@@ -2,7 +2,7 @@
 //! the rows, the answer is `Damaged`. Next to an occurrence it looks up the sides of the haystack: as many bytes, the
 //! haystack itself or others.
 ghost use Rattle.std.specs.Prelude.{◌≡◌, ◌+◌, ◌-◌, ◌*◌, ◌<◌, ◌≤◌, ℕ, IfOk, IfSome, MatchOption, None, OnErr};
-ghost use Rattle.std.specs.Prelude.{false, length};
+ghost use Rattle.std.specs.Prelude.{false, length, min};
 ghost use Rattle.std.specs.Result.{IsOkAnd};
 ghost use Rattle.literal_base.specs.Leftmost.{IsLeftmost};
 ghost use Rattle.literal_base.specs.Occurs.{IsValidSpan, between};
@@ -267,8 +267,7 @@ impl<'t> Words<'t> {
         requires { at ≤ length sides.now }
         ensures told { result ≡ is_word_before self.now.word_bytes sides.now at }
         ensures others { tally.new ≡ record tally.old { scanned = tally.new.scanned } }
-        ensures most { tally.new.scanned ≤ tally.old.scanned + 1 }
-        ensures least { tally.old.scanned ≤ tally.new.scanned }
+        ensures counted { tally.new.scanned ≡ tally.old.scanned + min 1 at }
     {
         at > 0 && self.is_word_at(sides, at - 1, tally)
     }
@@ -278,8 +277,7 @@ impl<'t> Words<'t> {
         requires { at ≤ length sides.now }
         ensures told { result ≡ is_word_at self.now.word_bytes sides.now at }
         ensures others { tally.new ≡ record tally.old { scanned = tally.new.scanned } }
-        ensures most { tally.new.scanned ≤ tally.old.scanned + 1 }
-        ensures least { tally.old.scanned ≤ tally.new.scanned }
+        ensures counted { tally.new.scanned ≡ tally.old.scanned + min 1 (length sides.now - at) }
     {
         if at == sides.len() {
             return false;

@@ -1,6 +1,6 @@
-//! How many requests for memory calls make. `checks/refusals` compares two tests by their names: a test whose name ends
-//! in `_and_no_more` makes as many requests as the test with the name before that, and one with `_and_one_more` or
-//! `_and_two_more` in its name makes one or two more.
+//! How many requests for memory calls make. `checks/refusals` compares two tests by their names. A test with
+//! `_and_no_more` in its name makes as many requests as the test that is named by the part before it. One with
+//! `_and_one_more` or `_and_two_more` makes one or two more.
 use crate::made::words_without_a_table;
 use literal_folding::{FoldedSearch, FoldedText};
 use literal_search::{MatchKind, Overlapping, Search, Span, WholeWords, WordText};

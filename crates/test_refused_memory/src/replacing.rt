@@ -176,7 +176,7 @@ fn replace_all_str_of_a_search(rt: HostRuntime) -> Result<(), AllocError> {
     Ok(())
 }
 
-/// The text without its words, which is empty, or another empty one.
+/// Nothing is left of the text once its words are replaced. Without a text the search is only built.
 fn assert_leaves_nothing(
     rt: &impl Abort,
     alloc: Global,

@@ -139,7 +139,7 @@ fn replace_text_all_str_of_a_word_text(rt: HostRuntime) -> Result<(), AllocError
 /// A text with one of the words, which is left out.
 const LEFT_OUT: &str = "Fuß";
 
-/// What is left of the text.
+/// Nothing is left of the text once its words are replaced. Without a text the search is only built.
 fn assert_leaves_nothing(
     rt: &impl Abort,
     alloc: Global,

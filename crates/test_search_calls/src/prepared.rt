@@ -2,7 +2,7 @@
 use crate::made::first_of;
 use literal_base::count::Tally;
 use literal_search::{
-    ArrayTooShort, Match, Overlapping, Prepared, PreparedOverlapping, SoFar, Span,
+    ArrayTooShort, Match, MatchKind, Overlapping, Prepared, PreparedOverlapping, SoFar, Span,
 };
 use std::alloc::Global;
 use std::test::Fail;
@@ -47,7 +47,9 @@ fn counted(array: &[u32]) -> Result<(Option<Match>, SoFar), Fail> {
 #[test]
 fn counts_by_an_array(rt: HostRuntime) -> Result<(), Fail> {
     let array = filled(rt.alloc())?;
-    assert!(rt; Prepared::new(&array)?.max_pattern_len() == 8);
+    let prepared = Prepared::new(&array)?;
+    assert!(rt; prepared.max_pattern_len() == 8);
+    assert!(rt; prepared.match_kind() == MatchKind::LeftmostFirst);
     let (found, so_far) = counted(&array)?;
     assert!(rt; found == second() && so_far == SoFar::NoneBefore(11));
     Ok(())

@@ -123,7 +123,8 @@ fn tells_what_it_was_built_of(rt: HostRuntime) -> Result<(), Fail> {
     Ok(())
 }
 
-/// It has 6 numbers, two for the pattern, 12 in the rows, 256 for classes, and 40 for the scan for candidates.
+/// It has 7 numbers in the header, two for the pattern, 12 in the rows, 256 for classes, and 40 for the scan for
+/// candidates.
 #[test]
 fn tells_how_many_bytes_it_takes(rt: HostRuntime) -> Result<(), Fail> {
     let search = longest_of(rt.alloc(), &[b"ab"])?;
@@ -159,8 +160,8 @@ fn what_never_matches_takes_no_states(rt: HostRuntime) -> Result<(), Fail> {
     Ok(())
 }
 
-/// It has 6 numbers, one for the pattern, 12 in the rows, 256 for classes, two for the start and the end of its list,
-/// one in this list, and 40 for the scan for candidates.
+/// It has 7 numbers in the header, one for the pattern, 12 in the rows, 256 for classes, two for the start and the end
+/// of its list, one in this list, and 40 for the scan for candidates.
 #[test]
 fn overlapping_tells_how_many_bytes_it_takes(rt: HostRuntime) -> Result<(), Fail> {
     let search = Overlapping::new(rt.alloc(), false, [b"ab".as_slice()])?;

@@ -35,16 +35,6 @@ module _ (longest : ℕ) (span : Span) where
     few = omega (arith, after.known_inside, thrice longest (span.end - span.start));
   }
 
-  pub short_scans : (at : ℕ) (m new : Marks) (t0 t1 : Counts) → IsPlaced longest span at m → m.known ≤ new.known
-      → ScansThrice (between m.known new.known) t0 t1
-      → t0.scanned + looked_by longest span new.known ≤ t1.scanned + looked_by longest span m.known
-      → ScansNext (looked_short longest span m) (looked_short longest span new) t0 t1
-  short_scans at m new t0 t1 before further scans least = record {
-    others = scans.others;
-    least = omega (arith, before.known_after, before.known_inside, least);
-    most = omega (arith, scans.most, before.known_after, further);
-  }
-
   pub short_rest : (at : ℕ) (m : Marks) (known : ℕ) (t0 t1 : Counts) → IsPlaced longest span at m → m.known ≤ known
       → known ≤ span.end → ScansThrice (between m.known known) t0 t1
       → ScansRest longest span (looked_short longest span m) t0 t1

@@ -1,5 +1,5 @@
 -- The list of all matches of a span, taken from the left.
-use Rattle.std.proofs.Common.{ℕ, ◌≤◌, List, [], ◌∷◌, ◌++◌, append-nil, append_assoc, arith, Bool, length, subst, IfOk}
+use Rattle.std.proofs.Common.{ℕ, ◌≤◌, List, arith, Bool, length, IfOk}
 use Rattle.std.proofs.Common.{OnErr, Result}
 use Rattle.std.specs.Global.{Vec}
 use Rattle.std.specs.declared.alloc.AllocError.{AllocError}
@@ -9,7 +9,6 @@ use Rattle.literal_base.specs.Leftmost.{IsLeftmostMatch}
 use Rattle.literal_base.specs.MatchValue.{MatchValue}
 use Rattle.literal_base.specs.Occurs.{NothingOccurs, between}
 use Rattle.literal_base.specs.Query.{Query}
-use Rattle.literal_search.specs.Inside.Search.{IsGreedyUpTo}
 use Rattle.literal_search.specs.SearchValue.{SearchValue}
 
 -- what holds, holds at an Err
@@ -25,20 +24,6 @@ greedy_whole query ignore_case haystack result greedy = greedy
 
 module _ (search : SearchValue) (haystack : List ℕ) where
   module _ (span : Span) where
-    -- where nothing is left that is all
-    pub up_to_all : (done : List MatchValue) (at : ℕ) → IsGreedyUpTo search haystack span done at
-        → NothingOccurs search.query.patterns search.ignore_case haystack (between at span.end)
-        → IsGreedyIn search.query search.ignore_case haystack span done
-    up_to_all done at so_far nothing =
-        subst (IsGreedyIn search.query search.ignore_case haystack span) (append-nil done)
-        (so_far.goes_on [] nothing)
-
-    -- and with the next match
-    pub up_to_next : (done : List MatchValue) (at : ℕ) (found : MatchValue) → IsGreedyUpTo search haystack span done at
-        → IsLeftmostMatch search.query search.ignore_case haystack (between at span.end) found
-        → IsGreedyUpTo search haystack span (done ++ found ∷ []) found.end
-    up_to_next done at found so_far leftmost = grind (arith, append_assoc)
-
     pub leftmost_occurs : (at : ℕ) (found : MatchValue) → span.start ≤ at
         → IsLeftmostMatch search.query search.ignore_case haystack (between at span.end) found
         → ¬ NothingOccurs search.query.patterns search.ignore_case haystack span

@@ -39,16 +39,6 @@ for_prepared words w are P holds search is longest =
     (holds search (are.back.is_for search is)
     (record { longest = longest; some = is.tables.kept.some }))
 
--- what is scanned with one byte before
-pub ends_whole : (start end : ℕ) (old now new : Counts) → now ≡ record old { scanned = now.scanned }
-    → now.scanned ≤ old.scanned + 1 → ScansEnds start end now new → ScansEnds start (end + 1) old new
-ends_whole start end old now new others most scans = grind (arith, scanned_on)
-
--- no pattern is empty
-pub is_some : (p : WordParts) → AreWordParts p → (i : ℕ) → i < length p.search.query.patterns
-    → 0 < length (pattern_at p.search.query.patterns i)
-is_some p parts i is = grind (arith, All-get_or)
-
 module _ (p : WordParts) (parts : AreWordParts p) (haystack sides : List ℕ) (at from end : ℕ) (found : MatchValue)
     (leftmost : IsLeftmostMatch p.search.query p.search.ignore_case haystack (between from end) found) where
   -- a pattern occurs after an offset as a whole word

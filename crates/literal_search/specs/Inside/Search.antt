@@ -1,10 +1,8 @@
 -- The fields of `Parts`, and definitions for private functions that build a search.
-use Rattle.std.specs.Prelude.{◌≡◌, ◌<◌, ◌≤◌, ℕ, List, ◌++◌, length, map}
-use Rattle.literal_base.specs.MatchValue.{MatchValue}
-use Rattle.literal_base.specs.Occurs.{IsValidSpan, between}
+use Rattle.std.specs.Prelude.{◌≡◌, ◌<◌, ℕ, List, length, map}
+use Rattle.literal_base.specs.Occurs.{IsValidSpan}
 use Rattle.literal_base.specs.declared.search.Span.{Span}
 use Rattle.literal_search.specs.SearchValue.{SearchValue, search_by, shortest_of, width_for}
-use Rattle.literal_base.specs.Greedy.{IsGreedyIn}
 use Rattle.literal_search.specs.Inside.Backward.{AreBackFor, IsSafe, back_tables_by}
 use Rattle.literal_search.specs.Inside.Cursor.{IsCursor, KnowsAhead}
 use Rattle.literal_search.specs.Prepared.{rows_in, width_in}
@@ -50,15 +48,6 @@ pub record GoesOn (parts : Parts) (b : Backward) (haystack : List ℕ) (span : S
   pub is_for : AreBackFor (search_value parts) b
   pub cursor : IsCursor b.table.longest span c
   pub knows : KnowsAhead (back_tables_by (search_value parts) b) haystack span c
-
--- the matches so far, before an offset: followed by the list of the rest, they are the list of the span
-pub record IsGreedyUpTo (search : SearchValue) (haystack : List ℕ) (span : Span) (done : List MatchValue) (at : ℕ)
-    : Type 0 where
-  pub after : span.start ≤ at
-  pub inside : at ≤ span.end
-  pub goes_on : (more : List MatchValue)
-      → IsGreedyIn search.query search.ignore_case haystack (between at span.end) more
-      → IsGreedyIn search.query search.ignore_case haystack span (done ++ more)
 
 -- this is the length of the shortest pattern, if there is one
 abbrev pub IsShortestOf : ℕ → List (List ℕ) → Type 0

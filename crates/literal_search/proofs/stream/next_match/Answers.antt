@@ -3,8 +3,8 @@ use Rattle.std.proofs.Common.{false, length, length-append, refl, subst, sym, tr
 use Rattle.std.proofs.Math.Seq.{drop-length}
 use Rattle.std.specs.IoError.{error_kind}
 use Rattle.literal_search.specs.SearchValue.{longest_of}
-use Rattle.literal_search.specs.Inside.Stream.{Begins, IsFirst, held, kept_back, margin_of, reach_of, search_of}
-use Rattle.literal_search.specs.Inside.Stream.{stream_value}
+use Rattle.literal_search.specs.Inside.Stream.{Begins, IsFirst, IsSearchIn, held, kept_back, margin_of, reach_of}
+use Rattle.literal_search.specs.Inside.Stream.{search_of, stream_value}
 use Rattle.literal_search.proofs.lemmas.Sought.{goes_from, nothing_last, search_stays}
 use Rattle.literal_search.proofs.lemmas.Streams.{ends_failed, ends_whole, goes_behind, gone_nowhere, gone_on, gone_past}
 use Rattle.literal_search.proofs.lemmas.Streams.{held_fits, read_in_part, read_whole}
@@ -43,6 +43,23 @@ returns-in-Found-clause-gives g c =
     (λ more over. one.answers more over) one.sound.reading.whole
     (omega (arith, one.known.0, one.known.1)) (omega (arith, one.known.2, begin))
     (omega (arith, one.known.2, held_fits v one.sound.window)) (cc)
+
+pub returns-in-Found-clause-sound : goal.returns-in-Found-clause-sound
+returns-in-Found-clause-sound g c =
+    let sought = c.args.sought in
+    let v = c.next_known.new.window in
+    let one = c.in-Found.ensures in
+    let margin_is = c.margin.ensures in (
+      record {
+        window = c.hold_from.ensures.window;
+        room = omega (arith, one.sound.room, c.hold_from.ensures.room);
+        reading = one.sound.reading;
+      },
+      rw margin_is at c.hold_from.ensures.from,
+      search_stays sought v c.hold_from.new.self c.end.result c.next_known.new.ahead c.hold_from.ensures.block
+          c.hold_from.ensures.begins
+          (subst (λ (at : ℕ). IsSearchIn sought v at c.next_known.new.ahead) (sym c.end.ensures.end) one.search),
+    )
 
 pub loop-found-preserved : goal.loop-found-preserved
 loop-found-preserved g c =

@@ -8,19 +8,10 @@ use Rattle.literal_search.specs.declared.backward.Backward.{Backward}
 use Rattle.literal_search.specs.declared.backward.Continuation.{Continuation}
 use Rattle.literal_search.specs.declared.backward.Continuation.TheVariants.{AfterStart, AtEnd}
 use Rattle.literal_search.specs.declared.backward.Marks.{Marks}
+use Rattle.literal_search.proofs.lemmas.Trail.{marked_behind}
 use Rattle.literal_search.proofs.backward.Backward.next_match.Goals as goal
 
--- where the list goes on after a match, the marks are those too
-marked_behind : (tables : BackTables) (haystack : List ℕ) (span : Span) (from : ℕ) (numbers : List ℕ) (m : Marks)
-    → from ≤ span.end → AreMarked tables haystack span from numbers m → (b : Backward) (answer : Option MatchValue)
-    → IfSome answer (IsMatchBy b span from) → (on : Continuation)
-    → AreMarked tables haystack span (offset_by on span answer) numbers m
-marked_behind tables haystack span from numbers m before marked b None lies AtEnd = grind arith
-marked_behind tables haystack span from numbers m before marked b None lies AfterStart = grind arith
-marked_behind tables haystack span from numbers m before marked b (Some found) lies AtEnd = grind arith
-marked_behind tables haystack span from numbers m before marked b (Some found) lies AfterStart = grind arith
-
--- and where it goes on after the match of a search that looked ahead
+-- where the list goes on after the match of a search that looked ahead
 marked_after : (tables : BackTables) (haystack : List ℕ) (span : Span) (at from : ℕ) (numbers : List ℕ) (m : Marks)
     → AreMarked tables haystack span at numbers m → (b : Backward) (found : Option MatchValue) → is_some found ≡ true
     → IfSome found (λ f. IsMatchBy b span from f × (at ≡ f.start + 1)) → (on : Continuation)
