@@ -1,73 +1,95 @@
 //! Finds the occurrences of words in a line that `-w` and `-x` allow; with neither, all are allowed.
 ghost use Rattle.std.specs.Prelude.{◌≡◌, ◌≤◌, ◌<◌, ℕ, false, length, true, IfSome, MatchOption};
+ghost use Rattle.literal_base.specs.Leftmost.{IsLeftmostMatch};
 ghost use Rattle.literal_base.specs.Occurs.{IsValidSpan, between, rest_from};
 ghost use Rattle.literal_base.specs.declared.packed.MatchKind.TheVariants.{LeftmostLongest};
 ghost use Rattle.litscan.specs.Asked.{IsFirstAsked, NothingAsked, OccursAsked, is_asked, is_behind_word};
 ghost use Rattle.litscan.specs.Asked.{is_before_word, is_word_byte, one_asked, stands_alone};
-ghost use Rattle.litscan.specs.Inside.Asked.{GoesAlong};
+ghost use Rattle.litscan.specs.Inside.Asked.{IsAlong};
 
 use crate::options::Options;
-use literal_search::{Match, Matches, Search, Span};
+use literal_search::{Match, Search, Span, Starts};
 
 /// Whether a word has an allowed occurrence in a line.
 pub fn has_asked(search: &Search, options: Options, line: &[u8]) -> bool
     requires { search.now.query.kind ≡ LeftmostLongest }
     ensures { result ≡ one_asked search.now options line.now }
 {
-    if options.whole || options.alone {
-        return next_asked(search, options, line, 0).is_some();
+    if options.whole {
+        return whole_line(search, options, line, 0).is_some();
+    }
+    if options.alone {
+        return has_alone(search, options, line);
     }
     search.is_match(line)
 }
 
-/// The first allowed match in a line at or after `from`; of those that begin at one offset, the longest.
-pub fn next_asked(search: &Search, options: Options, line: &[u8], from: usize) -> Option<Match>
+/// With `-w`: whether a word stands alone in a line. Few lines need more than one or two searches, which take less time
+/// than the start of an iteration.
+fn has_alone(search: &Search, options: Options, line: &[u8]) -> bool
     requires longest { search.now.query.kind ≡ LeftmostLongest }
-    requires inside { from ≤ length line.now }
-    ensures first { MatchOption result (NothingAsked search.now options line.now (rest_from line.now from))
-        (IsFirstAsked search.now options line.now (rest_from line.now from)) }
-    ensures not_empty { IfSome result (λ found. found.start < found.end) }
+    requires alone { (options.whole ≡ false) × (options.alone ≡ true) }
+    ensures { result ≡ one_asked search.now options line.now }
 {
-    if options.whole {
-        return whole_line(search, options, line, from);
-    }
-    let mut rest = Span {
-        start: from,
-        end: line.len(),
-    };
+    let (start, end) = (0, line.len());
+    let mut rest = Span { start, end };
     while let Some(found) = search.find_in(line, rest) {
-        if is_asked(options, line, found.span()) {
-            return Some(found);
-        }
-        if let Some(shorter) = asked_at(search, options, line, found.start(), found.end() - 1) {
-            return Some(shorter);
+        if let Some(_) = longest_asked(search, options, line, found) {
+            return true;
         }
         rest.start = first_start(line, found.start() + 1);
     }
-    None
+    false
 }
 
-/// The same, where an iteration over the matches in the line continues at `from`. If all matches are allowed, it gives
-/// the next one.
-pub fn next_of(
+/// The first allowed match in a line at or after `from`; of those that begin at one offset, the longest. The iteration
+/// gives the longest match at each offset, and continues at `from` or before.
+pub fn next_asked(
     search: &Search,
     options: Options,
     line: &[u8],
     from: usize,
-    matches: &mut Matches<'_, '_>,
+    starts: &mut Starts<'_, '_>,
 ) -> Option<Match>
     requires longest { search.now.query.kind ≡ LeftmostLongest }
     requires inside { from ≤ length line.now }
-    requires along { GoesAlong search.now options line.now from matches.old }
+    requires along { IsAlong search.now line.now from starts.old }
     ensures first { MatchOption result (NothingAsked search.now options line.now (rest_from line.now from))
         (IsFirstAsked search.now options line.now (rest_from line.now from)) }
     ensures not_empty { IfSome result (λ found. found.start < found.end) }
-    ensures along { IfSome result (λ found. GoesAlong search.now options line.now found.end matches.new) }
+    ensures along { IfSome result (λ found. IsAlong search.now line.now found.end starts.new) }
 {
-    if options.whole || options.alone {
-        return next_asked(search, options, line, from);
+    if options.whole {
+        return whole_line(search, options, line, from);
     }
-    matches.next()
+    while let Some(found) = starts.next() {
+        if found.start() < from {
+            continue;
+        }
+        if let Some(first) = longest_asked(search, options, line, found) {
+            return Some(first);
+        }
+    }
+    None
+}
+
+/// The longest allowed match at the start of a match that is the longest there.
+fn longest_asked(search: &Search, options: Options, line: &[u8], found: Match) -> Option<Match>
+    requires longest { search.now.query.kind ≡ LeftmostLongest }
+    requires part { options.whole ≡ false }
+    requires here { IsLeftmostMatch search.now.query search.now.ignore_case line.now
+        (rest_from line.now found.start) found }
+    requires not_empty { found.start < found.end }
+    ensures first { MatchOption result
+        ((i : ℕ) → ¬ OccursAsked search.now options line.now (rest_from line.now found.start) i found.start)
+        (λ it. (it.start ≡ found.start)
+        × IsFirstAsked search.now options line.now (rest_from line.now found.start) it) }
+    ensures not_empty { IfSome result (λ it. it.start < it.end) }
+{
+    if is_asked(options, line, found.span()) {
+        return Some(found);
+    }
+    asked_at(search, options, line, found.start(), found.end() - 1)
 }
 
 /// With `-w`: the longest allowed match that begins at `start` and ends at `end` or before.

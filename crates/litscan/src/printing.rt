@@ -11,7 +11,7 @@ ghost use Rattle.litscan.specs.Options.{is_colored};
 ghost use Rattle.litscan.specs.Printed.{PrintsFound, PrintsWhole, marked_from, printed_head, printed_match};
 ghost use Rattle.litscan.specs.Printed.{printed_front, printed_matches, printed_name, printed_part, printed_tab};
 
-use crate::asked::next_of;
+use crate::asked::next_asked;
 use crate::color::{MATCH, NAME, print_colon, print_colored, print_number};
 use crate::device::Device;
 use crate::fault::Fault;
@@ -90,8 +90,8 @@ pub fn print_matches<W: Write>(
 {
     let mut count = 0;
     let mut from = 0;
-    let mut matches = search.find_iter(line);
-    while let Some(found) = next_of(search, options, line, from, &mut matches) {
+    let mut starts = search.starts(line);
+    while let Some(found) = next_asked(search, options, line, from, &mut starts) {
         let start = offset + found.start() as u64;
         print_match(options, name, number, start, found.span().of(line), writer)?;
         count = 1;
@@ -174,8 +174,8 @@ fn print_marked<W: Write>(
     ensures error { IfErr result (IsWriteFault writer.new.failure) }
 {
     let mut from = 0;
-    let mut matches = search.find_iter(line);
-    while let Some(found) = next_of(search, options, line, from, &mut matches) {
+    let mut starts = search.starts(line);
+    while let Some(found) = next_asked(search, options, line, from, &mut starts) {
         writer.write_all(&line[from..found.start()])?;
         print_colored(options, MATCH, found.span().of(line), writer)?;
         from = found.end();

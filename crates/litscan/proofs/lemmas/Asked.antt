@@ -1,6 +1,6 @@
 -- Occurrences of words in a line that `-w` and `-x` allow. For `asked` and `scan`.
 use Rattle.std.proofs.Common.{◌≡◌, ℕ, ◌+◌, ◌<◌, ◌≤◌, ◌&&◌, Bool, true, false, List, [], length, get_or}
-use Rattle.std.proofs.Common.{Option, Some, None, IfSome, MatchOption, is_some, slice_range}
+use Rattle.std.proofs.Common.{Option, Some, None, MatchOption, is_some, slice_range}
 use Rattle.std.proofs.Common.{ap, sym, subst, ◌∙◌, arith, inl, inr}
 use Rattle.std.proofs.lemmas.Bool.{and_from, and_parts, both_ways, cases_Bool, cases_lt, cond-false, cond-true}
 use Rattle.std.proofs.lemmas.Bool.{le-leb, leb-true, not-true}
@@ -16,12 +16,12 @@ use Rattle.literal_base.specs.Occurs.{rest_from, stands_at}
 use Rattle.literal_base.proofs.lemmas.Met.{occurs_if, one_occurs_if}
 use Rattle.literal_base.specs.declared.packed.MatchKind.TheVariants.{LeftmostLongest}
 use Rattle.literal_base.specs.declared.search.Span.{Span}
-use Rattle.literal_search.specs.MatchesValue.{GivesMatch, MatchesValue}
+use Rattle.literal_search.specs.MatchesValue.{GivesStart, MatchesValue}
 use Rattle.literal_search.specs.SearchValue.{SearchValue}
 use Rattle.litscan.specs.Asked.{IsFirstAsked, NothingAsked, OccursAsked, is_asked, is_before_word, is_behind_word}
 use Rattle.litscan.specs.Asked.{one_asked}
 use Rattle.literal_search.proofs.lemmas.Callers.{matches_of}
-use Rattle.litscan.specs.Inside.Asked.{GoesAlong, IsAlong}
+use Rattle.litscan.specs.Inside.Asked.{IsAlong}
 use Rattle.litscan.specs.declared.options.Options.{Options}
 
 module _ (search : SearchValue) (options : Options) (line : List ℕ) where
@@ -76,15 +76,14 @@ module _ (search : SearchValue) (options : Options) (line : List ℕ) where
         | inr not_longer ↦ omega (arith, leftmost.whole, not_longer)
       ]
 
-  -- without `-w` and `-x` the leftmost match is the first allowed one
-  pub all_asked : (span : Span) (answer : Option MatchValue) → options.whole ≡ false → options.alone ≡ false
-      → search.query.kind ≡ LeftmostLongest → IsLeftmost search.query search.ignore_case line span answer
-      → MatchOption answer (NothingAsked search options line span) (IsFirstAsked search options line span)
-  all_asked span None part any kind nothing = λ i at o. nothing i at o.occurs
-  all_asked span (Some found) part any kind leftmost = record {
+  -- a leftmost match that is allowed is the first allowed one
+  pub first_if_asked : {span : Span} {found : MatchValue} → search.query.kind ≡ LeftmostLongest
+      → IsLeftmostMatch search.query search.ignore_case line span found
+      → is_asked options line found.start found.end ≡ true → IsFirstAsked search options line span found
+  first_if_asked {span} {found} kind leftmost asked = record {
     occurs = record {
       occurs = leftmost.occurs;
-      asked = cond-false options.whole _ _ part ∙ cond-false options.alone _ _ any;
+      asked = subst (λ end. is_asked options line found.start end ≡ true) leftmost.whole asked;
     };
     whole = leftmost.whole;
     first = λ i at o.
@@ -95,30 +94,65 @@ module _ (search : SearchValue) (options : Options) (line : List ℕ) where
     longest = λ i o. none_longer kind leftmost i o.occurs;
   }
 
-  -- the next match of an iteration over the matches in the line
-  pub next_along : (from : ℕ) (m next : MatchesValue) (answer : Option MatchValue) → IsAlong search line from m
-      → GivesMatch m answer next
-      → IsLeftmost search.query search.ignore_case line (rest_from line from) answer
-  next_along from m next answer along step = grind arith
+  -- a leftmost match is the leftmost from its start on
+  pub leftmost_here : {span : Span} {found : MatchValue} → span.end ≡ length line
+      → IsLeftmostMatch search.query search.ignore_case line span found
+      → IsLeftmostMatch search.query search.ignore_case line (rest_from line found.start) found
+  leftmost_here {span} {found} end leftmost = record {
+    occurs = occurs_in leftmost.occurs (omega arith) (omega (arith, leftmost.occurs.before_end, end));
+    whole = leftmost.whole;
+    earliest = λ i at before o. omega (arith, before, o.after_start);
+    best = λ i better o.
+        leftmost.best i better
+        (occurs_in o leftmost.occurs.after_start (omega (arith, o.before_end, end)));
+  }
 
-  -- the iteration continues at its end
-  pub goes_along : (from : ℕ) (m next : MatchesValue) (answer : Option MatchValue) → IsAlong search line from m
-      → GivesMatch m answer next → IfSome answer (λ found. GoesAlong search options line found.end next)
-  goes_along from m next None along step = tt
-  goes_along from m next (Some found) along step = λ part any. record {
+  -- no allowed occurrence begins before a leftmost match
+  pub begins_at : {a b : Span} {found : MatchValue} → a.end ≡ b.end
+      → IsLeftmostMatch search.query search.ignore_case line a found
+      → ((i at : ℕ) → OccursAsked search options line b i at → a.start ≤ at)
+      → (i at : ℕ) → OccursAsked search options line b i at → found.start ≤ at
+  begins_at {a} {b} {found} end leftmost begins i at o =
+      elim (cases_lt at found.start) [
+        | inl before ↦
+            absurd (leftmost.earliest i at before
+            (occurs_in o.occurs (begins i at o) (omega (arith, o.occurs.before_end, end))))
+        | inr not_before ↦ not_before
+      ]
+
+  -- the next match of an iteration over the matches at all offsets
+  pub start_along : (at : ℕ) (m next : MatchesValue) (answer : Option MatchValue) → IsAlong search line at m
+      → GivesStart m answer next
+      → IsLeftmost search.query search.ignore_case line (between m.at (length line)) answer
+  start_along at m next answer along step = grind arith
+
+  -- the iteration continues after its start
+  pub along_after : (at : ℕ) (m next : MatchesValue) (found : MatchValue) → IsAlong search line at m
+      → GivesStart m (Some found) next → IsAlong search line (found.start + 1) next
+  along_after at m next found along step = record {
     search_is = ap (λ (it : MatchesValue). it.search) step.goes_on ∙ along.search_is;
     haystack_is = ap (λ (it : MatchesValue). it.haystack) step.goes_on ∙ along.haystack_is;
     end_is = ap (λ (it : MatchesValue). it.span.end) step.goes_on ∙ along.end_is;
-    at_is = ap (λ (it : MatchesValue). it.at) step.goes_on;
+    before = omega (arith, ap (λ (it : MatchesValue). it.at) step.goes_on);
   }
 
   -- where it has just begun
-  pub along_first : (m : MatchesValue) → m ≡ matches_of search line → GoesAlong search options line 0 m
-  along_first m begun = λ part any. record {
+  pub along_first : (m : MatchesValue) → m ≡ matches_of search line → IsAlong search line 0 m
+  along_first m begun = record {
     search_is = ap (λ (it : MatchesValue). it.search) begun;
     haystack_is = ap (λ (it : MatchesValue). it.haystack) begun;
     end_is = ap (λ (it : MatchesValue). it.span.end) begun;
-    at_is = ap (λ (it : MatchesValue). it.at) begun;
+    before = omega (arith, ap (λ (it : MatchesValue). it.at) begun);
+  }
+
+  -- it is also along from any later offset
+  pub along_from : {at later : ℕ} {m : MatchesValue} → at ≤ later → IsAlong search line at m
+      → IsAlong search line later m
+  along_from {at} {later} {m} after along = record {
+    search_is = along.search_is;
+    haystack_is = along.haystack_is;
+    end_is = along.end_is;
+    before = omega (arith, after, along.before);
   }
 
   -- if a leftmost match is not allowed, each allowed occurrence at its start is shorter
@@ -136,18 +170,6 @@ module _ (search : SearchValue) (options : Options) (line : List ℕ) where
             absurd (both_ways (is_asked options line found.start found.end) other
             (subst (λ end. is_asked options line found.start end ≡ true) same o.asked))
       ]
-
-  -- the first allowed occurrence in a span is the first in a longer span, if no allowed one begins before the shorter
-  pub first_from : {a b : Span} {found : MatchValue} → b.start ≤ a.start → a.end ≡ b.end
-      → ((i at : ℕ) → OccursAsked search options line b i at → a.start ≤ at)
-      → IsFirstAsked search options line a found → IsFirstAsked search options line b found
-  first_from {a} {b} {found} after end begins is = record {
-    occurs = asked_in is.occurs (omega (arith, is.occurs.occurs.after_start, after))
-        (omega (arith, is.occurs.occurs.before_end, end));
-    whole = is.whole;
-    first = λ i at o. is.first i at (asked_in o (begins i at o) (omega (arith, o.occurs.before_end, end)));
-    longest = λ i o. is.longest i (asked_in o (begins i found.start o) (omega (arith, o.occurs.before_end, end)));
-  }
 
   -- if the leftmost match is not allowed, but a shorter occurrence at its start is, the latter is the first allowed one
   pub first_shorter : {span : Span} {found shorter : MatchValue} {start end : ℕ}
@@ -170,26 +192,20 @@ module _ (search : SearchValue) (options : Options) (line : List ℕ) where
         is.longest i (asked_in o (omega (arith, place)) (omega (arith, less, place, start_is, end_is)));
   }
 
-  -- if neither the leftmost match nor a shorter occurrence at its start is allowed, each allowed one begins after it
-  pub begins_behind : {span : Span} {found : MatchValue} {start end : ℕ} → search.query.kind ≡ LeftmostLongest
-      → IsLeftmostMatch search.query search.ignore_case line span found
+  -- the longest allowed occurrence at the start of a leftmost match that is not allowed is one of the shorter ones
+  pub asked_below : {span : Span} {found : MatchValue} (start end : ℕ) (answer : Option MatchValue)
+      → search.query.kind ≡ LeftmostLongest → IsLeftmostMatch search.query search.ignore_case line span found
       → is_asked options line found.start found.end ≡ false → start ≡ found.start → end + 1 ≡ found.end
-      → ((i : ℕ) → ¬ OccursAsked search options line (between start end) i start)
-      → (i at : ℕ) → OccursAsked search options line span i at → found.start + 1 ≤ at
-  begins_behind {span} {found} {start} {end} kind leftmost other start_is end_is none i at o =
-      elim (cases_lt found.start at) [
-        | inl behind ↦ omega (arith, behind)
-        | inr not_behind ↦
-            elim (cases_lt at found.start) [
-              | inl before ↦ absurd (leftmost.earliest i at before o.occurs)
-              | inr not_before ↦
-                  let place : at ≡ found.start = omega (arith, not_behind, not_before) in
-                  let here = subst (λ at. OccursAsked search options line span i at) place o in
-                  let less = is_shorter kind leftmost other i here in
-                  absurd (none i (subst (λ at. OccursAsked search options line (between start end) i at)
-                  (sym start_is) (asked_in here (omega (arith, start_is)) (omega (arith, less, end_is)))))
-            ]
-      ]
+      → MatchOption answer ((i : ℕ) → ¬ OccursAsked search options line (between start end) i start)
+      (λ it. (it.start ≡ start) × IsFirstAsked search options line (between start end) it)
+      → MatchOption answer ((i : ℕ) → ¬ OccursAsked search options line span i found.start)
+      (λ it. (it.start ≡ found.start) × IsFirstAsked search options line span it)
+  asked_below {span} {found} start end None kind leftmost other start_is end_is none = λ i o.
+      let less = is_shorter kind leftmost other i o in
+      none i (subst (λ at. OccursAsked search options line (between start end) i at) (sym start_is)
+      (asked_in o (omega (arith, start_is)) (omega (arith, less, end_is))))
+  asked_below {span} {found} start end (Some it) kind leftmost other start_is end_is is =
+      (is.0 ∙ start_is, first_shorter kind leftmost other start_is end_is is.0 is.1)
 
   abbrev here_by : ℕ → List ℕ → Bool
   here_by at bytes = stands_at search.ignore_case bytes line at && is_asked options line at (at + length bytes)

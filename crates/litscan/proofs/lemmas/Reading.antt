@@ -1,5 +1,5 @@
 -- What is read line by line is the text, and its lines are those that were read. For `lines` and `scan`.
-use Rattle.std.proofs.Common.{◌≡◌, ◌≢◌, ◌⊎◌, ◌==◌, ℕ, Bool, true, false, List, [], ◌∷◌, ◌++◌, cond}
+use Rattle.std.proofs.Common.{◌≡◌, ◌==◌, ℕ, Bool, true, false, List, [], ◌∷◌, ◌++◌, cond}
 use Rattle.std.proofs.Common.{◌+◌, ◌≤◌, ◌^◌, Option, None, Some, Result, Ok, Err, IfOk, MatchResult, arith, length}
 use Rattle.std.proofs.Common.{length-append, take}
 use Rattle.std.proofs.Common.{refl, sym, ap, ◌∙◌, inl, inr, subst}
@@ -14,12 +14,12 @@ use Rattle.std.proofs.lemmas.List.{append-nil, flat_map_more, take-append-le}
 use Rattle.std.proofs.Math.Seq.{take-append_seam}
 use Rattle.std.proofs.lemmas.List.Elements.{All-head, All-tail}
 use Rattle.std.specs.declared.io.ErrorKind.TheVariants as kind
-use Rattle.litscan.specs.Fault.{IsReadFault, StopsRead, read_fault}
+use Rattle.litscan.specs.Fault.{IsReadFault, StopsRead}
 use Rattle.litscan.specs.Lines.{HasNoEnd, last_line, with_end}
 use Rattle.litscan.specs.Inside.Passed.{lines_read}
 use Rattle.litscan.specs.Options.{is_enough}
 use Rattle.litscan.specs.Printed.{BeginsWith, Reads, ReadsAll, ReadsTooMany, StopsAtEnough}
-use Rattle.litscan.specs.declared.fault.Fault.TheVariants.{OutOfMemory, ReadFailed}
+use Rattle.litscan.specs.declared.fault.Fault.TheVariants.{ReadFailed}
 use Rattle.litscan.specs.declared.fault.Fault.{Fault}
 use Rattle.litscan.proofs.lemmas.Lines.{Other}
 

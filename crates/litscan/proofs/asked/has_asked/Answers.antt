@@ -5,7 +5,7 @@ use Rattle.litscan.proofs.asked.has_asked.Goals as goal
 pub returns-then-options : goal.returns-then-options
 returns-then-options c =
     c.is_some.ensures
-    ∙ told_by_first c.args.search.now c.args.options c.args.line.now c.next_asked.result c.next_asked.ensures.first
+    ∙ told_by_first c.args.search.now c.args.options c.args.line.now c.whole_line.result c.whole_line.ensures.first
 
 pub returns : goal.returns
 returns c =

@@ -2,7 +2,7 @@ use Rattle.std.proofs.Common.{◌≡◌, ◌-◌, ◌≤◌, ◌++◌, List, len
 use Rattle.std.specs.Io.KnownBytes.{Appends}
 use Rattle.literal_base.specs.MatchValue.{MatchValue}
 use Rattle.litscan.specs.Asked.{AreMatches}
-use Rattle.litscan.specs.Inside.Asked.{GoesAlong}
+use Rattle.litscan.specs.Inside.Asked.{IsAlong}
 use Rattle.litscan.specs.Printed.{marked_from}
 use Rattle.litscan.proofs.printing.print_marked.Given as goal
 
@@ -12,7 +12,7 @@ invariant-loop-found g l = record {
   all : List MatchValue;
   out : List ℕ;
   inside : l.from ≤ length l.line;
-  along : GoesAlong l.search l.options l.line l.from l.matches;
+  along : IsAlong l.search l.line l.from l.starts;
   goes_on : (more : List MatchValue) → AreMatches l.search l.options l.line l.from more
       → AreMatches l.search l.options l.line 0 (all ++ more);
   written : Appends (g.W.Write.contents l.fn.writer.inner) (g.W.Write.contents l.writer.inner) out;

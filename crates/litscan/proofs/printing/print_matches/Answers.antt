@@ -5,7 +5,7 @@ use Rattle.std.proofs.lemmas.List.{flat_map_more, length_push}
 use Rattle.std.specs.Io.KnownBytes.{Appends}
 use Rattle.literal_base.specs.declared.search.Span.{Span}
 use Rattle.litscan.specs.Asked.{AreMatches}
-use Rattle.litscan.specs.Inside.Asked.{GoesAlong}
+use Rattle.litscan.specs.Inside.Asked.{IsAlong}
 use Rattle.litscan.specs.Printed.{printed_match, printed_matches, printed_part}
 use Rattle.litscan.proofs.lemmas.Asked.{along_first}
 use Rattle.litscan.proofs.printing.print_matches.Goals as goal
@@ -14,8 +14,8 @@ pub loop-found-init : goal.loop-found-init
 loop-found-init g c = record {
   all = [];
   inside = omega arith;
-  along = along_first c.args.search.now c.args.options c.args.line.now c.find_iter-matches.result
-      c.find_iter-matches.ensures;
+  along = along_first c.args.search.now c.args.options c.args.line.now c.starts-starts.result
+      c.starts-starts.ensures;
   goes_on = λ more are. are;
   written = Appends-nil _;
   counted = refl;
@@ -42,7 +42,7 @@ loop-found-preserved g c =
     record {
       all = so_far.all ++ found ∷ [];
       inside = omega (arith, c.end-from.ensures.end, first.whole, first.occurs.occurs.before_end);
-      along = subst (λ at. GoesAlong search options line at c.next_of.new.matches) (sym c.end-from.ensures.end)
+      along = subst (λ at. IsAlong search line at c.next_asked.new.starts) (sym c.end-from.ensures.end)
           c.in-Some.ensures.along;
       goes_on = λ more are.
           subst (AreMatches search options line 0) (sym (append_assoc so_far.all (found ∷ []) more))

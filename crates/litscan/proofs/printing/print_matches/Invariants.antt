@@ -2,7 +2,7 @@ use Rattle.std.proofs.Common.{◌≡◌, ◌-◌, ◌≤◌, ◌++◌, List, len
 use Rattle.std.specs.Io.KnownBytes.{Appends}
 use Rattle.literal_base.specs.MatchValue.{MatchValue}
 use Rattle.litscan.specs.Asked.{AreMatches}
-use Rattle.litscan.specs.Inside.Asked.{GoesAlong}
+use Rattle.litscan.specs.Inside.Asked.{IsAlong}
 use Rattle.litscan.specs.Printed.{printed_matches}
 use Rattle.litscan.proofs.printing.print_matches.Given as goal
 
@@ -11,7 +11,7 @@ abbrev pub invariant-loop-found : goal.invariant-loop-found
 invariant-loop-found g l = record {
   all : List MatchValue;
   inside : l.from ≤ length l.line;
-  along : GoesAlong l.search l.options l.line l.from l.matches;
+  along : IsAlong l.search l.line l.from l.starts;
   goes_on : (more : List MatchValue) → AreMatches l.search l.options l.line l.from more
       → AreMatches l.search l.options l.line 0 (all ++ more);
   written : Appends (g.W.Write.contents l.fn.writer.inner) (g.W.Write.contents l.writer.inner)
