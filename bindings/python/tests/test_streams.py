@@ -1,4 +1,5 @@
 """Searches in files: in pieces of any size, in files that fail or do not wait, and how much of a text is kept."""
+import fcntl
 import io
 import os
 import queue
@@ -222,6 +223,90 @@ class Pipes(unittest.TestCase):
         changed.read = Lower(b"A NEEDLE").read
         for file in Lower(b"A NEEDLE"), changed:
             self.assertEqual(Search([b"needle"]).count_stream(file), 1)
+
+
+class Buffers(unittest.TestCase):
+    """Files that read into a buffer, after a first whole block."""
+
+    @classmethod
+    def setUpClass(cls):
+        cls.text = bytes(random.Random(9).choices(b"abc", k=3 * _stream.BLOCK + 77))
+        cls.file = tempfile.NamedTemporaryFile()
+        cls.addClassCleanup(cls.file.close)
+        cls.file.write(cls.text)
+        cls.file.flush()
+
+    def open(self, buffering=-1):
+        file = open(self.file.name, "rb", buffering)
+        self.addCleanup(file.close)
+        return file
+
+    def files(self):
+        for buffering in (0, -1, 7, 1 << 20):
+            yield self.open(buffering)
+        yield from (io.BytesIO(self.text), io.BufferedReader(io.BytesIO(self.text)), Pieces(self.text, _stream.BLOCK))
+
+    def test_as_in_the_whole_text(self):
+        block, text = _stream.BLOCK, self.text
+        for words in ([b"abcabcabc", text[block - 3 : block + 5]], [text[block - 1 : 2 * block + 1], b"cccccccc"],
+                      [text[block - 60000 : block + 60000], b"aaaaaaaa"]):
+            searcher = Search(words)
+            wanted, every = searcher.findall(text), searcher.find_overlapping(text)
+            for file, again, other, last in zip(*(self.files() for _ in range(4))):
+                found = list(searcher.finditer_stream(file))
+                self.assertEqual((found, [it.group() for it in found]), (wanted, [it.group() for it in wanted]))
+                self.assertEqual(searcher.count_stream(again), len(wanted))
+                searcher.sub_stream(other, out := io.BytesIO(), b"<>")
+                self.assertEqual(out.getvalue() == searcher.sub(b"<>", text), True, other)
+                self.assertEqual(list(searcher.finditer_overlapping_stream(last)), every)
+
+    def test_behind_what_was_read_before(self):
+        for file in self.files():
+            before = file.read(5)
+            self.assertEqual(Search([b"ab"]).count_stream(file), self.text.count(b"ab", len(before)))
+
+    def test_how_much_is_read(self):
+        """A whole block each time, and the file is at its end then."""
+        for file in self.open(0), io.BytesIO(self.text):
+            searcher = Watched([b"d"])
+            self.assertEqual(searcher.count_stream(file), 0)
+            self.assertEqual(searcher.parts, [_stream.BLOCK] * 3 + [77, 0])
+            self.assertEqual(file.tell(), len(self.text))
+
+    def test_a_class_of_its_own(self):
+        """Only its `read` is called."""
+        def wrong(self, buffer):
+            raise AssertionError
+
+        for kind, of in (io.BytesIO, self.text), (io.FileIO, self.file.name):
+            with type("Own", (kind,), {"readinto": wrong})(of) as file:
+                self.assertEqual(Search([b"ab"]).count_stream(file), self.text.count(b"ab"))
+
+    def test_a_method_of_its_own(self):
+        for file in self.open(0), self.open():
+            whole = file.read
+            file.read = file.read1 = lambda size: whole(size).replace(b"a", b"A")
+            self.assertEqual(Search([b"Ab"]).count_stream(file), self.text.count(b"ab"))
+
+    def test_a_file_that_is_closed(self):
+        for file in self.files():
+            if not isinstance(file, Pieces):
+                found = Search([self.text[:9], b"d"]).finditer_stream(file)
+                self.assertEqual(next(found).span(), (0, 9))
+                file.close()
+                self.assertRaises(ValueError, list, found)
+
+    def test_a_pipe_that_does_not_wait(self):
+        for buffering in (-1, 0):
+            reader, writer = os.pipe()
+            with open(reader, "rb", buffering) as file, open(writer, "wb", 0) as out:
+                os.set_blocking(reader, False)
+                fcntl.fcntl(writer, fcntl.F_SETPIPE_SZ, 4 * _stream.BLOCK)
+                out.write(self.text)
+                searcher, found = Search([b"abcabcabc"]), []
+                with self.assertRaises(BlockingIOError) as raised:
+                    found.extend(searcher.finditer_stream(file))
+                self.assertEqual((raised.exception.errno, found), (11, searcher.findall(self.text)))
 
 
 class Refusals(unittest.TestCase):
