@@ -42,10 +42,10 @@
  * versions of the library, an array of the other version is LITERAL_DAMAGED: its first number is the format. Then
  * prepare the search again.
  *
- * A call looks up at most three times the bytes to search. A call for all matches, or their count, may look up each
- * byte once more for each whole 262,000 bytes of the longest pattern. A call for the leftmost match that finds one has
- * a second bound: at most eleven times the bytes before the match, and 576 more, or 18 times the length of the longest
- * pattern and 108 more, whichever is more.
+ * A call looks up at most three times the bytes to search. A call for all matches, or their count, may look up 19 bytes
+ * more, and each byte once more for each whole 262,000 bytes of the longest pattern. A call for the leftmost match that
+ * finds one has a second bound: at most eleven times the bytes before the match, and 576 more, or 18 times the length
+ * of the longest pattern and 108 more, whichever is more.
  *
  * For each offset at which a pattern begins, a call for whole words looks up more bytes: at most one more than the
  * longest pattern has. These bounds are proved of the searches that the calls make, and not of the calls themselves.
@@ -209,8 +209,8 @@ int32_t literal_find(uint32_t kind, uint32_t ignore_case, const uint8_t *pattern
  *
  * After its last match a page looks for the next one: page->next is its start, so that the next page reads no bytes
  * before it again. A page may also look up bytes after that offset, which the next page looks up again: some 2,000, or,
- * if a pattern has more than 1,024 bytes, up to twice the length of the page and of that pattern together. So provide
- * room for hundreds of matches if there are many; for a single match literal_find is faster.
+ * if a pattern has more than 252 bytes, some 3,000 and up to twice the length of the page and of that pattern together.
+ * So provide room for hundreds of matches if there are many; for a single match literal_find is faster.
  *
  * LITERAL_OK             found and page are written, also if no pattern occurs (then page->written is 0)
  * LITERAL_BAD_ARGUMENTS  from is above haystack_len, or found_len is 0: a loop over such pages would never end */

@@ -83,8 +83,41 @@ pub fn write_page<M: LeftmostMatches + Drop>(
     Ok(page)
 }
 
-/// Writes the matches in a span of a haystack. A short span has an iteration that clears less memory.
+/// Writes the matches in a span of a haystack. Before its first candidate it needs no iteration.
 pub fn page_in(
+    search: &Prepared<'_>,
+    haystack: &[u8],
+    span: Span,
+    found: &mut [LiteralMatch],
+) -> Result<LiteralPage, Damaged>
+    requires { IsValidSpan haystack.now span }
+    ensures page { ForPrepared search.now (λ whole. IsOkAnd result
+        (IsPage whole.query whole.ignore_case haystack.now span found.old found.new)) }
+    ensures inside { IfOk result (MayBePage span (slice_index search.now 3) found.new) }
+    ensures goes_on { IfOk result (λ page. span.start + page.written ≤ page.next) }
+{
+    let nothing = LiteralPage {
+        written: 0,
+        next: span.start,
+        is_last: 1,
+    };
+    let start = search.first_candidate_in(haystack, span);
+    if start == span.end {
+        return Ok(nothing);
+    }
+    let rest = Span {
+        start,
+        end: span.end,
+    };
+    let page = page_from(search, haystack, rest, found)?;
+    if page.written == 0 && page.is_last == 1 {
+        return Ok(nothing);
+    }
+    Ok(page)
+}
+
+/// The same by an iteration. A short span has one that clears less memory.
+fn page_from(
     search: &Prepared<'_>,
     haystack: &[u8],
     span: Span,
@@ -104,6 +137,24 @@ pub fn page_in(
 
 /// Counts the matches in a span of a haystack, in the same way.
 pub fn count_in(search: &Prepared<'_>, haystack: &[u8], span: Span) -> Result<usize, Damaged>
+    requires { IsValidSpan haystack.now span }
+    ensures count { ForPrepared search.now (λ whole. IsOkAnd result
+        (IsCount whole.query whole.ignore_case haystack.now span)) }
+    ensures most { IfOk result (λ count. count ≤ span.end - span.start) }
+{
+    let start = search.first_candidate_in(haystack, span);
+    if start == span.end {
+        return Ok(0);
+    }
+    let rest = Span {
+        start,
+        end: span.end,
+    };
+    count_from(search, haystack, rest)
+}
+
+/// The same by an iteration.
+fn count_from(search: &Prepared<'_>, haystack: &[u8], span: Span) -> Result<usize, Damaged>
     requires { IsValidSpan haystack.now span }
     ensures count { ForPrepared search.now (λ whole. IsOkAnd result
         (IsCount whole.query whole.ignore_case haystack.now span)) }

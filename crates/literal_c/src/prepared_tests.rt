@@ -129,6 +129,32 @@ fn finds_pages_by_an_array(rt: HostRuntime) -> Result<(), Fail> {
     Ok(())
 }
 
+/// Finds the word at the end of a haystack, in a span that begins at an offset.
+fn assert_found_at_end(rt: &impl Abort, prepared: &[u32], haystack: &[u8], start: usize) {
+    let (mut found, mut count) = ([BEFORE], 0);
+    let mut page = LiteralPage {
+        written: 0,
+        next: 0,
+        is_last: 7,
+    };
+    let status = literal_find_all_in(prepared, haystack, start, 130, &mut found, &mut page);
+    assert!(rt; status == LITERAL_OK && page.written == 1 && page.next == 130);
+    assert_match(rt, &found[0], (1, 125, 130));
+    let status = literal_count_in(prepared, haystack, start, 130, &mut count);
+    assert!(rt; status == LITERAL_OK && count == 1);
+}
+
+/// The longest short span has 128 bytes.
+#[test]
+fn finds_at_the_end_of_spans_that_are_just_short(rt: HostRuntime) -> Result<(), Fail> {
+    let prepared = search_for_words(rt.alloc(), LITERAL_LEFTMOST_FIRST, 0)?;
+    let mut haystack = [b'-'; 130];
+    haystack[125..].copy_from_slice(b"maple");
+    assert_found_at_end(&rt, &prepared, &haystack, 2);
+    assert_found_at_end(&rt, &prepared, &haystack, 1);
+    Ok(())
+}
+
 #[test]
 fn finds_in_each_by_an_array(rt: HostRuntime) -> Result<(), Fail> {
     let prepared = search_for_words(rt.alloc(), LITERAL_LEFTMOST_FIRST, 0)?;

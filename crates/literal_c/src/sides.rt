@@ -8,7 +8,7 @@ ghost use Rattle.literal_c.specs.Words.{AreSides, ForAsciiWords, IsWordCountBy, 
 
 use crate::answers::match_for_c;
 use crate::arguments::match_kind;
-use crate::words::{count_words, words_in, write_words};
+use crate::words::{count_words, find_word, words_in, write_words};
 use crate::{
     LITERAL_BAD_ARGUMENTS, LITERAL_DAMAGED, LITERAL_NONE, LITERAL_OK, LiteralMatch, LiteralPage,
 };
@@ -52,7 +52,7 @@ pub extern "C" fn literal_find_word_by_sides_in(
     let Ok(words) = words_in(kind, prepared) else {
         return LITERAL_DAMAGED;
     };
-    match words.find_in_by_sides(haystack, sides, Span { start, end }) {
+    match find_word(&words, haystack, sides, Span { start, end }) {
         Err(Damaged) => LITERAL_DAMAGED,
         Ok(None) => LITERAL_NONE,
         Ok(Some(it)) => {

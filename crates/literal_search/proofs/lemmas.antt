@@ -52,9 +52,11 @@ pub mod Sought
 pub mod Passes
 pub mod Position
 pub mod States
+pub mod StreamCounts
 pub mod Streams
 pub mod Texts
 pub mod Trail
+pub mod TrailInFour
 pub mod Unmarked
 pub mod Walk
 pub mod WholeWords

@@ -11,8 +11,8 @@ use Rattle.literal_base.specs.Leftmost.{IsLeftmost, IsLeftmostMatch}
 use Rattle.literal_base.specs.MatchValue.{MatchValue}
 use Rattle.literal_base.specs.Occurs.{Occurs, rest_from}
 use Rattle.literal_base.specs.Query.{Query}
-use Rattle.literal_search.specs.SearchValue.{SearchValue, first_part, longest_of}
-use Rattle.literal_search.specs.WholeWords.{IsFirstAlone, OccursAlone, WholeWordsValue}
+use Rattle.literal_search.specs.SearchValue.{SearchValue, first_part, longest_of, most_scanned}
+use Rattle.literal_search.specs.WholeWords.{IsFirstAlone, OccursAlone, WholeWordsValue, most_at_start}
 use Rattle.literal_search.specs.declared.stream.SoFar.{SoFar}
 use Rattle.literal_search.specs.declared.stream.SoFar.TheVariants.{Found, NoneBefore}
 
@@ -57,7 +57,7 @@ pub record ScansSoFar (longest len at : ℕ) (answer : SoFar) (old new : Counts)
 
 -- a `StreamMatches` as contracts see it: the search, the bytes ahead that were read, the bytes still to be read if they
 -- are known, the offset at which the search continues, the kind of the error if reading failed, whether a read has
--- found the end of the text, and whether the iteration has ended
+-- found the end of the text, whether the iteration has ended, and an upper bound on the bytes that it has looked up
 pub record StreamValue : Type 0 where
   pub search : SearchValue
   pub held : List ℕ
@@ -66,6 +66,7 @@ pub record StreamValue : Type 0 where
   pub failure : Option ErrorKind
   pub is_whole : Bool
   pub is_over : Bool
+  pub look_ups : ℕ
 
 -- the answer is the leftmost match of a text from an offset on
 abbrev pub IsLeftmostFrom : SearchValue → List ℕ → ℕ → Option MatchValue → Type 0
@@ -126,6 +127,7 @@ module _ (IsFirst : List ℕ → ℕ → Option MatchValue → Type 0) (Begins :
       offset = found.end;
       failure = new.failure;
       is_whole = new.is_whole;
+      look_ups = new.look_ups;
     }
 
   -- the search has ended, past all bytes that were read
@@ -137,6 +139,7 @@ module _ (IsFirst : List ℕ → ℕ → Option MatchValue → Type 0) (Begins :
     failure = new.failure;
     is_whole = new.is_whole;
     is_over = true;
+    look_ups = new.look_ups;
   }
 
   -- the text has ended, no reading failed, and there is nothing in the bytes ahead
@@ -176,6 +179,33 @@ GivesStreamed old = GivesAhead (IsLeftmostFrom old.search) (OccursFrom old.searc
 abbrev pub most_streamed : StreamValue → Count
 most_streamed m = at_most (if m.is_over then 0 else 2 ^ 64 - m.offset)
 
+-- how many bytes of the text were read, if a search continues at an offset and the bytes ahead begin so many bytes
+-- before it
+abbrev pub bytes_read : ℕ → ℕ → List ℕ → ℕ
+bytes_read margin offset held = max offset ((offset - margin) + length held)
+
+-- at most as many bytes are scanned as an upper bound grows
+pub record ScansMore (before after : ℕ) (old new : Counts) : Type 0 where
+  pub others : new ≡ record old { scanned = new.scanned }
+  pub most : new.scanned + before ≤ old.scanned + after
+
+-- the bytes that a call of a stream scans: at most as many as its bound grows. With the most that may be looked up once
+-- in so many bytes, the bound is at most twice that of all bytes that were read
+pub record ScansStreamedBy (most : ℕ → ℕ) (margin : ℕ) (old new : StreamValue) (counts counts_new : Counts)
+    : Type 0 where
+  pub scans : ScansMore old.look_ups new.look_ups counts counts_new
+  pub few : old.is_over ≡ false → new.look_ups ≤ 2 * most (bytes_read margin new.offset new.held)
+
+-- the bytes that a call of a `StreamMatches` scans: in all at most twice those of a list of the bytes that were read
+abbrev pub ScansStreamed : StreamValue → StreamValue → Counts → Counts → Type 0
+ScansStreamed old = ScansStreamedBy (most_scanned (longest_of old.search.query.patterns)) 0 old
+
+-- a step of an iteration that counts: the answer of `next`, and the bytes that it scans
+pub record GivesStreamedCounted (old : StreamValue × Counts) (answer : Option (Result MatchValue Error))
+    (new : StreamValue × Counts) : Type 0 where
+  pub gives : GivesStreamed old.0 answer new.0
+  pub scans : ScansStreamed old.0 new.0 old.1 new.1
+
 -- a search that has not begun, in what a reader gives, if that is known
 abbrev pub stream_of : SearchValue → Option (List ℕ) → StreamValue
 stream_of search unread =
@@ -187,6 +217,7 @@ stream_of search unread =
       failure = None;
       is_whole = false;
       is_over = false;
+      look_ups = 0;
     }
 
 -- the answer is the leftmost whole word of a text from an offset on
@@ -214,6 +245,16 @@ pub record GivesWordStreamed (old : WordStreamValue) (answer : Option (Result Ma
   pub gives : GivesAhead (IsFirstWordFrom (words_in old)) (OccursAloneFrom (words_in old)) 1 old.stream answer
       new.stream
   pub same : new.word_bytes ≡ old.word_bytes
+
+-- the most bytes that a list of whole words looks up in so many bytes: those of a list, plus `most_at_start` for each
+-- byte
+unfoldable pub most_words_scanned : ℕ → ℕ → ℕ
+most_words_scanned longest bytes = most_scanned longest bytes + bytes * most_at_start longest
+
+-- the bytes that a call of a `WholeWordStreamMatches` scans: in all at most twice those of a list of whole words
+abbrev pub ScansWordsStreamed : WordStreamValue → WordStreamValue → Counts → Counts → Type 0
+ScansWordsStreamed old new =
+    ScansStreamedBy (most_words_scanned (longest_of old.stream.search.query.patterns)) 1 old.stream new.stream
 
 -- `most_streamed` of a `WholeWordStreamMatches`
 abbrev pub most_words_streamed : WordStreamValue → Count

@@ -426,7 +426,7 @@ impl<'t> Backward<'t> {
 
     /// Does the work of [`Backward::mark_in_four`] in one loop.
     #[inline(always)]
-    fn mark_parts(
+    pub(crate) fn mark_parts(
         &self,
         classes: &[u8; 256],
         haystack: &[u8],

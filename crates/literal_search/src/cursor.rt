@@ -10,11 +10,18 @@ ghost use Rattle.literal_search.specs.Inside.Cursor.{look_ups_of, looked_in};
 ghost use Rattle.literal_search.specs.Prepared.{BackTables};
 ghost use Rattle.literal_search.specs.declared.backward.Continuation.{Continuation};
 
-use crate::backward::{Backward, Continuation, LEAST, Marks, no_marks, offset_after};
+use crate::backward::{Backward, Continuation, LEAST, MARKED, Marks, no_marks, offset_after};
 use crate::prepared::Damaged;
 use crate::trail::Trail;
 use literal_base::count::Tally;
 use literal_base::{Match, Span};
+
+/// The largest length of the longest pattern with which four walks mark a block at once: a part is at least four bytes
+/// longer.
+const LONGEST_MARKED: usize = MARKED - 4;
+
+/// In a span of at most this length, marks of blocks are faster than trails, if they fit.
+const LONG_SPAN: usize = 64 * LEAST;
 
 /// Where an iteration continues, and what it knows of the offsets from there on.
 #[derive(Clone, Copy)]
@@ -58,7 +65,8 @@ impl Cursor {
         ensures at { self.new.at ≡ span.start }
         ensures none { look_ups_of longest span self.new ≡ no_look_ups }
     {
-        if longest > LEAST && span.end - span.start > LEAST {
+        let short = if longest > LEAST { LEAST } else { LONG_SPAN };
+        if longest > LONGEST_MARKED && span.end - span.start > short {
             self.room = Room::Trailed(Trail::new(span.start));
         }
     }

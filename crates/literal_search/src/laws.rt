@@ -1,6 +1,6 @@
 //! Consequences of the definitions, for callers. Call a law where its fact is needed.
-ghost use Rattle.std.specs.Prelude.{◌≡◌, ◌+◌, ◌<◌, ◌≤◌, ◌-◌, ◌^◌, ◌++◌, ◌∷◌, [], ℕ, Bool, List, length, take, Err};
-ghost use Rattle.std.specs.Prelude.{◌↔◌, ◌⊎◌, IsNone, None, Ok, Option, Some, false, map, slice_range, sum_by};
+ghost use Rattle.std.specs.Prelude.{◌≡◌, ◌+◌, ◌*◌, ◌<◌, ◌≤◌, ◌-◌, ◌^◌, ◌++◌, ◌∷◌, [], ℕ, Bool, List, length, take, Err};
+ghost use Rattle.std.specs.Prelude.{◌↔◌, ◌⊎◌, IsNone, None, Ok, Option, Result, Some, false, map, slice_range, sum_by};
 ghost use Rattle.std.specs.Io.KnownBytes.{Consumes};
 ghost use Rattle.std.specs.Iterator.{Yields};
 ghost use Rattle.std.specs.List.{All};
@@ -14,7 +14,7 @@ ghost use Rattle.literal_base.specs.MatchValue.{MatchValue};
 ghost use Rattle.literal_base.specs.Occurs.{NoneIsEmpty, Occurs, between, pattern_at, rest_from, whole_of};
 ghost use Rattle.literal_base.specs.Query.{Query};
 ghost use Rattle.literal_search.specs.LookUps.{ScansRest};
-ghost use Rattle.literal_search.specs.SearchValue.{SearchValue, longest_of};
+ghost use Rattle.literal_search.specs.SearchValue.{ScansListAtMost, SearchValue, longest_of};
 ghost use Rattle.literal_search.specs.At.{IsMatchIn};
 ghost use Rattle.literal_search.specs.Automaton.{AreAtEnd, OccursAtEnd};
 ghost use Rattle.literal_search.specs.MatchesValue.{GivesCounted, GivesMatch, MatchesValue};
@@ -26,8 +26,8 @@ ghost use Rattle.literal_search.specs.Prepared.{prepared_len};
 ghost use Rattle.literal_search.specs.PreparedOverlapping.{IsPreparedOverlapping, IsWholeOverlapping, overlapping_len};
 ghost use Rattle.literal_search.specs.Replaced.{replaced};
 ghost use Rattle.literal_search.specs.declared.prepared.ArrayTooShort.{ArrayTooShort};
-ghost use Rattle.literal_search.specs.Stream.{GivesStreamed, GivesWordStreamed, StreamValue, WordStreamValue};
-ghost use Rattle.literal_search.specs.Stream.{stream_of, word_stream_of};
+ghost use Rattle.literal_search.specs.Stream.{GivesStreamed, GivesStreamedCounted, GivesWordStreamed, StreamValue};
+ghost use Rattle.literal_search.specs.Stream.{WordStreamValue, stream_of, word_stream_of};
 ghost use Rattle.literal_search.specs.WholeWords.{AreWholeWords, OccursAlone, WholeWordsValue};
 
 /// After an iterator answers `None`, it is at the end of its span (`ends`). There it always answers `None` and stays.
@@ -88,6 +88,26 @@ pub fn streams_are_greedy()
         (all : List MatchValue) → Yields GivesStreamed (stream_of search unread) (map Ok all) last
         → GivesStreamed last None ended → (text : List ℕ) × Consumes unread ended.unread text
         × (ended.offset ≡ length text) × IsGreedy search.query search.ignore_case text 0 all }
+{}
+
+/// An iteration over a stream that counts scans at most as many bytes as two lists of all bytes that it has read, for
+/// any number of answers (`bounded`). After `None` these are the bytes before its offset (`ended`). Without its counts
+/// it is an iteration over the stream (`streamed`). One more answer extends an iteration (`more`).
+pub fn streams_scan_at_most()
+    ensures bounded { (search : SearchValue) (unread : Option (List ℕ)) (first last next : StreamValue × Counts)
+        (all : List (Result MatchValue Error)) (answer : Option (Result MatchValue Error))
+        → first.0 ≡ stream_of search unread → Yields GivesStreamedCounted first all last
+        → GivesStreamedCounted last answer next
+        → ScansListAtMost search.query.patterns (2 * (next.0.offset + length next.0.held)) first.1 next.1 }
+    ensures ended { (search : SearchValue) (unread : Option (List ℕ)) (first last next : StreamValue × Counts)
+        (all : List (Result MatchValue Error)) → first.0 ≡ stream_of search unread
+        → Yields GivesStreamedCounted first all last → GivesStreamedCounted last None next
+        → ScansListAtMost search.query.patterns (2 * next.0.offset) first.1 next.1 }
+    ensures streamed { (first last : StreamValue × Counts) (all : List (Result MatchValue Error))
+        → Yields GivesStreamedCounted first all last → Yields GivesStreamed first.0 all last.0 }
+    ensures more { (first last next : StreamValue × Counts) (all : List (Result MatchValue Error))
+        (one : Result MatchValue Error) → Yields GivesStreamedCounted first all last
+        → GivesStreamedCounted last (Some one) next → Yields GivesStreamedCounted first (all ++ one ∷ []) next }
 {}
 
 /// The same of whole words: if the bytes of a reader are known, the words that an iteration over a stream has given

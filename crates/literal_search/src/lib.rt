@@ -42,6 +42,7 @@ mod sought;
 mod stream;
 mod suffixes;
 mod trail;
+mod trail_in_four;
 mod walk;
 mod whole_words;
 mod window;

@@ -1,9 +1,9 @@
 //! The search for leftmost matches by an array that its caller lends, without memory of its own. The array is not
 //! trusted: if a number leads out of it, the search answers [`Damaged`].
-ghost use Rattle.std.specs.Prelude.{◌≡◌, ◌+◌, ◌-◌, ◌*◌, ◌<◌, ◌≤◌, ◌↔◌, slice_index};
+ghost use Rattle.std.specs.Prelude.{◌≡◌, ℕ, ◌+◌, ◌-◌, ◌*◌, ◌<◌, ◌≤◌, ◌↔◌, slice_index};
 ghost use Rattle.std.specs.Prelude.{IfOk, IfSome, IsTrue, MatchResult, None};
 ghost use Rattle.std.specs.Result.{IsOkAnd};
-ghost use Rattle.literal_base.specs.Occurs.{IsValidSpan, between};
+ghost use Rattle.literal_base.specs.Occurs.{IsValidSpan, Occurs, between};
 ghost use Rattle.literal_search.specs.LookUps.{LooksOn, ScansNext, ScansRest, no_look_ups};
 ghost use Rattle.literal_search.specs.SearchValue.{LooksFor};
 ghost use Rattle.literal_base.specs.Leftmost.{IsLeftmost};
@@ -16,7 +16,7 @@ use crate::backward::{Backward, Continuation};
 use crate::classes::CLASSES_LEN;
 use crate::cursor::Cursor;
 use crate::prepared::{
-    Damaged, KIND_AT, LENGTHS_AT, PREPARED_VERSION, SCAN_LEN, is_checked, split,
+    Damaged, KIND_AT, LENGTHS_AT, PREPARED_VERSION, SCAN_LEN, is_checked, scan_in, split,
 };
 use crate::walk::Table;
 use literal_base::count::Tally;
@@ -116,6 +116,44 @@ impl<'p> Prepared<'p> {
         let longest = self.backward().table.longest;
         matches.cursor.make_room(longest, span);
         matches
+    }
+
+    /// Returns an offset in a span of the haystack before which no match begins. The scan for candidates finds it: it
+    /// is the first candidate, or the end of the span if there is none. If the array has no scan, it is the start of
+    /// the span. A list that begins there has the same matches. An iterator takes longer to clear than a line takes to
+    /// scan, so this call shows whether one is needed. Which candidates there are is not claimed: they only make a list
+    /// faster or slower.
+    #[inline(always)]
+    pub fn first_candidate_in(&self, haystack: &[u8], span: Span) -> usize
+        requires { IsValidSpan haystack.now span }
+        ensures none { ForPrepared self.now (λ search. (i offset : ℕ)
+            → Occurs search.query.patterns search.ignore_case haystack.now span i offset
+            → (result ≤ offset) × (offset < span.end)) }
+        ensures inside { (span.start ≤ result) × (result ≤ span.end) }
+    {
+        self.first_candidate_in_counted(haystack, span, &mut Tally::new())
+    }
+
+    /// Like [`Prepared::first_candidate_in`], and counts each looked-up byte in the tally, as scanned: at most three
+    /// times the bytes before the candidate, and 19 more.
+    #[inline(always)]
+    pub fn first_candidate_in_counted(
+        &self,
+        haystack: &[u8],
+        span: Span,
+        tally: &mut Tally,
+    ) -> usize
+        requires { IsValidSpan haystack.now span }
+        ensures none { ForPrepared self.now (λ search. (i offset : ℕ)
+            → Occurs search.query.patterns search.ignore_case haystack.now span i offset
+            → (result ≤ offset) × (offset < span.end)) }
+        ensures inside { (span.start ≤ result) × (result ≤ span.end) }
+        ensures others { tally.new ≡ record tally.old { scanned = tally.new.scanned } }
+        ensures most { tally.new.scanned ≤ tally.old.scanned + 3 * (result - span.start) + 19 }
+        ensures least { tally.old.scanned + (result - span.start) ≤ tally.new.scanned }
+    {
+        let backward = self.backward();
+        backward.pass_over(&scan_in(backward.prints), haystack, span, tally)
     }
 
     /// Returns the leftmost match in a span of the haystack, as [`Search::find_in`](crate::Search::find_in) does. With

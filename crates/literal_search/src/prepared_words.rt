@@ -1,8 +1,8 @@
 //! The search for whole words by an array that its caller lends, without memory of its own. The array is not trusted:
 //! if a number leads out of it, the search answers [`Damaged`].
-ghost use Rattle.std.specs.Prelude.{◌≡◌, ◌<◌, ◌≤◌, IfOk, IfSome, MatchResult, None, length, slice_index};
+ghost use Rattle.std.specs.Prelude.{◌≡◌, ℕ, ◌<◌, ◌≤◌, IfOk, IfSome, MatchResult, None, length, slice_index};
 ghost use Rattle.std.specs.Result.{IsOkAnd};
-ghost use Rattle.literal_base.specs.Occurs.{IsValidSpan, between};
+ghost use Rattle.literal_base.specs.Occurs.{IsValidSpan, Occurs, between};
 ghost use Rattle.literal_search.specs.MatchesValue.{offset_after_start, offset_at_end};
 ghost use Rattle.literal_base.specs.declared.packed.MatchKind.TheVariants.{LeftmostFirst, LeftmostLongest};
 ghost use Rattle.literal_search.specs.Prepared.{LiesIn, kind_in, longest_in};
@@ -106,6 +106,18 @@ impl<'p> PreparedWords<'p> {
         ensures rest { ScansWordsRest (longest_in self.now.numbers) span span.start no_look_ups tally.old tally.new }
     {
         self.find_in_by_sides_counted(haystack, haystack, span, tally)
+    }
+
+    /// Returns an offset in a span before which no pattern begins, as [`Prepared::first_candidate_in`] does.
+    #[inline(always)]
+    pub fn first_candidate_in(&self, haystack: &[u8], span: Span) -> usize
+        requires { IsValidSpan haystack.now span }
+        ensures none { ForWholeWords self.now (λ words. (i offset : ℕ)
+            → Occurs words.search.query.patterns words.search.ignore_case haystack.now span i offset
+            → (result ≤ offset) × (offset < span.end)) }
+        ensures inside { (span.start ≤ result) × (result ≤ span.end) }
+    {
+        self.prepared.first_candidate_in(haystack, span)
     }
 
     /// Returns an iterator over all whole words in a span of the haystack, as

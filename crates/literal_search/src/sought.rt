@@ -1,9 +1,11 @@
 //! What a stream is searched for: the matches of a search, or whole words. The search goes through a block of it.
-ghost use Rattle.std.specs.Prelude.{◌≡◌, ◌≤◌, List, ℕ, IfSome, false, length, min, true};
+ghost use Rattle.std.specs.Prelude.{◌≡◌, ◌-◌, ◌≤◌, List, ℕ, IfSome, false, length, min, true};
 ghost use Rattle.literal_base.specs.Occurs.{NoneIsEmpty, between};
 ghost use Rattle.literal_search.specs.Prepared.{LiesIn};
 ghost use Rattle.literal_search.specs.declared.sought.Sought.{Sought};
-ghost use Rattle.literal_search.specs.Inside.Stream.{AreTablesOf, IsFirst, IsThrough, margin_of, reach_of, search_of};
+ghost use Rattle.literal_search.specs.Stream.{ScansMore};
+ghost use Rattle.literal_search.specs.Inside.Stream.{AreTablesOf, IsFirst, IsThrough, looked_in_block, margin_of};
+ghost use Rattle.literal_search.specs.Inside.Stream.{most_in_block, reach_of, search_of};
 
 use crate::backward::Continuation;
 use crate::cursor::Cursor;
@@ -110,6 +112,7 @@ impl<'s> BlockSearch<'s> {
         requires { span.start ≤ span.end }
         ensures words { self.new.words ≡ self.old.words }
         ensures begun { self.new.is_begun ≡ true }
+        ensures span { self.new.span ≡ span }
         ensures through { (sought : Sought) (block : List ℕ) → span.end ≡ length block
             → IsThrough sought block span.start self.new }
     {
@@ -139,9 +142,12 @@ impl<'s> BlockSearch<'s> {
         requires through { IsThrough sought haystack.now at self.old }
         ensures first { IsFirst sought.entry haystack.now at result }
         ensures inside { IfSome result (LiesIn (between at (length haystack.now))) }
-        ensures words { self.new.words ≡ self.old.words }
-        ensures begun { self.new.is_begun ≡ self.old.is_begun }
+        ensures same { self.new ≡ record self.old { cursor = self.new.cursor } }
         ensures through { IfSome result (λ found. IsThrough sought.entry haystack.now found.end self.new) }
+        ensures scans { ScansMore (looked_in_block sought.entry self.old) (looked_in_block sought.entry self.new)
+            tally.old tally.new }
+        ensures few { looked_in_block sought.entry self.new
+            ≤ most_in_block sought.entry (self.new.span.end - self.new.span.start) }
     {
         let BlockSearch {
             words,

@@ -1,21 +1,21 @@
 //! Searches in texts that may continue, and in texts that are read in pieces.
-ghost use Rattle.std.specs.Prelude.{◌≡◌, ◌+◌, ◌<◌, ◌≤◌, ◌++◌, [], ℕ, Bool, List, length, false, true};
+ghost use Rattle.std.specs.Prelude.{◌≡◌, ◌+◌, ◌-◌, ◌*◌, ◌<◌, ◌≤◌, ◌++◌, [], ℕ, Bool, List, length, false, true};
 ghost use Rattle.std.specs.Prelude.{IfOk, IfSome, MatchOption, MatchResult, max};
 ghost use Rattle.std.specs.Io.KnownBytes.{Consumes};
 ghost use Rattle.literal_base.specs.Leftmost.{IsLeftmost};
 ghost use Rattle.literal_base.specs.Occurs.{NoneIsEmpty, between};
-ghost use Rattle.literal_base.specs.MatchValue.{MatchValue};
 ghost use Rattle.literal_base.specs.Query.{Query};
 ghost use Rattle.literal_search.specs.Prepared.{LiesIn};
-ghost use Rattle.literal_search.specs.SearchValue.{SearchValue, longest_of};
-ghost use Rattle.literal_search.specs.declared.sought.Sought.{Sought};
-ghost use Rattle.literal_search.specs.declared.stream.SoFar.TheVariants.{Found};
+ghost use Rattle.literal_search.specs.SearchValue.{longest_of};
 ghost use Rattle.literal_search.specs.Stream.{AnswersSoFar, EndsFailed, EndsWhole, GivesAhead, GoesBehind, IsKnownBy};
-ghost use Rattle.literal_search.specs.Stream.{IsKnownSoFar, ScansSoFar, stream_of, told_to};
+ghost use Rattle.literal_search.specs.Stream.{GivesStreamed, IsKnownSoFar, ScansSoFar, ScansStreamed, ScansStreamedBy};
+ghost use Rattle.literal_search.specs.Stream.{bytes_read, stream_of, told_to};
+ghost use Rattle.literal_search.specs.Stream.{ScansMore};
 ghost use Rattle.literal_search.specs.Inside.Stream.{Answers, AnswersAhead, AreHeldFrom, AreTablesOf, Begins};
 ghost use Rattle.literal_search.specs.Inside.Stream.{GoesOnAfter, HasReadOn, IsFirst, IsFirstKnown, IsOpen};
-ghost use Rattle.literal_search.specs.Inside.Stream.{IsSearchIn, IsSoundStream, IsThrough, TellsOf, held, margin_of};
-ghost use Rattle.literal_search.specs.Inside.Stream.{reach_of, search_of, stream_value};
+ghost use Rattle.literal_search.specs.Inside.Stream.{IsSearchIn, IsSoundStream, IsThrough, TellsOf, held};
+ghost use Rattle.literal_search.specs.Inside.Stream.{done_to, looked_in_block, looked_so_far, margin_of};
+ghost use Rattle.literal_search.specs.Inside.Stream.{most_in_block, reach_of, search_of, stream_value};
 
 use crate::Search;
 use crate::reading::Reading;
@@ -119,8 +119,8 @@ pub fn so_far(haystack: &[u8], at: usize, longest: usize, leftmost: Option<Match
 
 /// The iterator of [`Search::find_stream`]. Contracts see the search, the bytes ahead that were read, the bytes still
 /// to be read if they are known, the offset at which the bytes ahead begin, the kind of the error if reading failed,
-/// and whether the iterator has ended. After its first `None` or error it is past all bytes read, always answers
-/// `None`, and stays unchanged.
+/// whether the iterator has ended, and an upper bound on the bytes that it has looked up. After its first `None` or
+/// error it is past all bytes read, always answers `None`, and stays unchanged.
 #[derive(Drop)]
 pub struct StreamMatches<'s, R: Read + Drop> {
     search: &'s Search,
@@ -136,13 +136,25 @@ impl<'s, R: Read + Drop> Model for StreamMatches<'s, R> {
 
     ghost Value = { StreamValue };
 
-    ghost view = { λ m. stream_value m.search.now m.stream.window m.stream.at m.stream.reading
+    ghost view = { λ m. stream_value (Any m.search) m.stream.window m.stream.at m.stream.ahead m.stream.reading
         (R.remaining m.stream.reader) m.stream.is_over };
 
     ghost invariant = { λ m. m.stream.is_over ≡ false
         → IsSoundStream (reach_of (Any m.search)) m.stream.window m.stream.reading (R.remaining m.stream.reader)
         × AreHeldFrom 0 m.stream.at m.stream.window
-        × IsSearchIn (Any m.search) m.stream.window m.stream.at m.stream.ahead };
+        × IsSearchIn (Any m.search) m.stream.window m.stream.reading m.stream.at m.stream.ahead };
+}
+
+impl<'s, R: Read + Drop> StreamMatches<'s, R> {
+    /// Like `next`, and counts each looked-up byte in the tally, as scanned. In all these are at most six times the
+    /// bytes that were read, and two times more for each whole 262,000 bytes of the longest pattern, for any number of
+    /// matches.
+    pub fn next_counted(&mut self, tally: &mut Tally) -> Option<io::Result<Match>>
+        ensures gives { GivesStreamed self.old result self.new }
+        ensures scans { ScansStreamed self.old self.new tally.old tally.new }
+    {
+        self.stream.next(Sought::Any(self.search), tally)
+    }
 }
 
 impl<'s, R: Read + Drop> Iterator for StreamMatches<'s, R> {
@@ -157,8 +169,7 @@ impl<'s, R: Read + Drop> Iterator for StreamMatches<'s, R> {
     /// An error comes only after every match that is known from the bytes read. It is the error of the reader, or
     /// [`io::ErrorKind::FileTooLarge`] if a `usize` cannot count more of the text.
     fn next(&mut self) -> Option<io::Result<Match>> {
-        self.stream
-            .next(Sought::Any(self.search), &mut Tally::new())
+        self.next_counted(&mut Tally::new())
     }
 }
 
@@ -183,10 +194,10 @@ impl<'s, R: Read + Drop> Stream<'s, R> {
         ensures sound { IfOk result (λ s. IsSoundStream (reach_of sought.entry) s.window s.reading
             (R.remaining s.reader)) }
         ensures held { IfOk result (λ s. AreHeldFrom (margin_of sought.entry) s.at s.window) }
-        ensures search { IfOk result (λ s. IsSearchIn sought.entry s.window s.at s.ahead) }
-        ensures first { IfOk result (λ s. (search : SearchValue)
-            → stream_value search s.window s.at s.reading (R.remaining s.reader) s.is_over
-            ≡ stream_of search (R.remaining reader)) }
+        ensures search { IfOk result (λ s. IsSearchIn sought.entry s.window s.reading s.at s.ahead) }
+        ensures first { IfOk result (λ s.
+            stream_value sought.entry s.window s.at s.ahead s.reading (R.remaining s.reader) s.is_over
+            ≡ stream_of (search_of sought.entry) (R.remaining reader)) }
     {
         let window = Window::new(alloc, sought.reach().saturating_mul(2))?;
         Ok(Stream {
@@ -208,16 +219,21 @@ impl<'s, R: Read + Drop> Stream<'s, R> {
         requires { self.old.is_over ≡ false
             → IsSoundStream (reach_of sought) self.old.window self.old.reading (R.remaining self.old.reader)
             × AreHeldFrom (margin_of sought) self.old.at self.old.window
-            × IsSearchIn sought self.old.window self.old.at self.old.ahead }
+            × IsSearchIn sought self.old.window self.old.reading self.old.at self.old.ahead }
         ensures sound { self.new.is_over ≡ false
             → IsSoundStream (reach_of sought.entry) self.new.window self.new.reading (R.remaining self.new.reader)
             × AreHeldFrom (margin_of sought.entry) self.new.at self.new.window
-            × IsSearchIn sought.entry self.new.window self.new.at self.new.ahead }
+            × IsSearchIn sought.entry self.new.window self.new.reading self.new.at self.new.ahead }
         ensures gives { GivesAhead (IsFirst sought.entry) (Begins sought.entry) (margin_of sought.entry)
-            (stream_value (search_of sought.entry) self.old.window self.old.at self.old.reading
+            (stream_value sought.entry self.old.window self.old.at self.old.ahead self.old.reading
             (R.remaining self.old.reader) self.old.is_over) result
-            (stream_value (search_of sought.entry) self.new.window self.new.at self.new.reading
+            (stream_value sought.entry self.new.window self.new.at self.new.ahead self.new.reading
             (R.remaining self.new.reader) self.new.is_over) }
+        ensures scans { ScansStreamedBy (most_in_block sought.entry) (margin_of sought.entry)
+            (stream_value sought.entry self.old.window self.old.at self.old.ahead self.old.reading
+            (R.remaining self.old.reader) self.old.is_over)
+            (stream_value sought.entry self.new.window self.new.at self.new.ahead self.new.reading
+            (R.remaining self.new.reader) self.new.is_over) tally.old tally.new }
     {
         if self.is_over {
             return None;
@@ -249,20 +265,24 @@ fn next_match<R: Read>(
 ) -> io::Result<Option<Match>>
     requires sound { IsSoundStream (reach_of sought) window.old reading.old (R.remaining reader.old) }
     requires held { AreHeldFrom (margin_of sought) at.old window.old }
-    requires search { IsSearchIn sought window.old at.old ahead.old }
+    requires search { IsSearchIn sought window.old reading.old at.old ahead.old }
     ensures sound { IfOk result (λ answer. IfSome answer (λ _. IsSoundStream (reach_of sought.entry)
         window.new reading.new (R.remaining reader.new) × AreHeldFrom (margin_of sought.entry) at.new window.new
-        × IsSearchIn sought.entry window.new at.new ahead.new)) }
+        × IsSearchIn sought.entry window.new reading.new at.new ahead.new)) }
     ensures gives { MatchResult result (λ answer. MatchOption answer
         (EndsWhole (IsFirst sought.entry) (Begins sought.entry) (margin_of sought.entry)
-        (stream_value (search_of sought.entry) window.old at.old reading.old (R.remaining reader.old) false)
-        (stream_value (search_of sought.entry) window.new at.new reading.new (R.remaining reader.new) true))
+        (stream_value sought.entry window.old at.old ahead.old reading.old (R.remaining reader.old) false)
+        (stream_value sought.entry window.new at.new ahead.new reading.new (R.remaining reader.new) true))
         (λ found. GoesBehind (IsFirst sought.entry) (Begins sought.entry) (margin_of sought.entry)
-        (stream_value (search_of sought.entry) window.old at.old reading.old (R.remaining reader.old) false) found
-        (stream_value (search_of sought.entry) window.new at.new reading.new (R.remaining reader.new) false)))
+        (stream_value sought.entry window.old at.old ahead.old reading.old (R.remaining reader.old) false) found
+        (stream_value sought.entry window.new at.new ahead.new reading.new (R.remaining reader.new) false)))
         (λ error. EndsFailed (IsFirst sought.entry) (Begins sought.entry) (margin_of sought.entry)
-        (stream_value (search_of sought.entry) window.old at.old reading.old (R.remaining reader.old) false) error
-        (stream_value (search_of sought.entry) window.new at.new reading.new (R.remaining reader.new) true)) }
+        (stream_value sought.entry window.old at.old ahead.old reading.old (R.remaining reader.old) false) error
+        (stream_value sought.entry window.new at.new ahead.new reading.new (R.remaining reader.new) true)) }
+    ensures scans { ScansMore (looked_so_far sought.entry window.old at.old ahead.old)
+        (looked_so_far sought.entry window.new at.new ahead.new) tally.old tally.new }
+    ensures few { looked_so_far sought.entry window.new at.new ahead.new
+        ≤ 2 * most_in_block sought.entry (bytes_read (margin_of sought.entry) at.new (held window.new)) }
 {
     loop {
         match next_known(sought, window, *at, ahead, reader, reading, tally) {
@@ -300,7 +320,7 @@ pub(crate) fn next_known<R: Read>(
 ) -> SoFar
     requires sound { IsSoundStream (reach_of sought) window.old reading.old (R.remaining reader.old) }
     requires held { AreHeldFrom (margin_of sought) at window.old }
-    requires search { IsSearchIn sought window.old at ahead.old }
+    requires search { IsSearchIn sought window.old reading.old at ahead.old }
     ensures sound { IsSoundStream (reach_of sought.entry) window.new reading.new (R.remaining reader.new) }
     ensures held { AreHeldFrom (margin_of sought.entry) at window.new }
     ensures offset { window.new.offset ≡ window.old.offset }
@@ -311,19 +331,20 @@ pub(crate) fn next_known<R: Read>(
     ensures known { IsFirstKnown (reach_of sought.entry) reading.new.is_whole at
         (window.new.offset + length (held window.new)) result }
     ensures further { IsOpen reading.new → at < told_to result }
-    ensures search { IsSearchIn sought.entry window.new (told_to result) ahead.new }
-    ensures goes_on { (found : MatchValue) → result ≡ Found found → ahead.new.is_begun ≡ true }
+    ensures search { IsSearchIn sought.entry window.new reading.new (told_to result) ahead.new }
+    ensures scans { ScansMore (looked_so_far sought.entry window.old at ahead.old)
+        (looked_so_far sought.entry window.new (done_to window.new reading.new result) ahead.new)
+        tally.old tally.new }
     ensures not_empty { NoneIsEmpty (search_of sought.entry).query.patterns }
 {
-    let reach = sought.reach();
-    go_on(reach, window, at, ahead, reader, reading);
+    go_on(sought, window, at, ahead, reader, reading);
     let (base, is_whole) = (window.block_offset(), reading.is_whole());
     match first_known(
         sought,
         window.block(),
         at - base,
         ahead,
-        reach,
+        sought.reach(),
         is_whole,
         tally,
     ) {
@@ -338,27 +359,28 @@ pub(crate) fn next_known<R: Read>(
 /// Begins the next block, unless the search of the one before may still give a match that is known. It has all that can
 /// be read, or twice the bytes that decide about a match.
 fn go_on<R: Read>(
-    reach: usize,
+    sought: Sought<'_>,
     window: &mut Window,
     at: usize,
     ahead: &mut BlockSearch<'_>,
     reader: &mut R,
     reading: &mut Reading,
 )
-    requires sound { IsSoundStream reach window.old reading.old (R.remaining reader.old) }
-    requires held { (margin : ℕ) × (margin ≤ reach) × AreHeldFrom margin at window.old }
-    ensures sound { IsSoundStream reach window.new reading.new (R.remaining reader.new) }
+    requires sound { IsSoundStream (reach_of sought) window.old reading.old (R.remaining reader.old) }
+    requires held { AreHeldFrom (margin_of sought) at window.old }
+    requires search { IsSearchIn sought window.old reading.old at ahead.old }
+    ensures sound { IsSoundStream (reach_of sought.entry) window.new reading.new (R.remaining reader.new) }
     ensures offset { window.new.offset ≡ window.old.offset }
     ensures read { (piece : List ℕ) × Consumes (R.remaining reader.old) (R.remaining reader.new) piece
         × (held window.new ≡ held window.old ++ piece) × HasReadOn reading.old piece reading.new }
-    ensures search { (sought : Sought) → IsSearchIn sought window.old at ahead.old
-        → IsSearchIn sought window.new at ahead.new }
+    ensures search { IsSearchIn sought.entry window.new reading.new at ahead.new }
     ensures begun { ahead.new.is_begun ≡ true }
-    ensures stays { ahead.old.is_begun ≡ true
-        → at + max reach 1 ≤ window.old.offset + length (held window.old)
-        → (window.new ≡ window.old) × (ahead.new ≡ ahead.old) }
-    ensures enough { IsOpen reading.new → at + max reach 1 ≤ window.new.offset + length (held window.new) }
+    ensures enough { IsOpen reading.new
+        → at + max (reach_of sought.entry) 1 ≤ window.new.offset + length (held window.new) }
+    ensures paid { looked_so_far sought.entry window.old at ahead.old
+        ≤ looked_so_far sought.entry window.new at ahead.new }
 {
+    let reach = sought.reach();
     let known = window.offset + window.held().len();
     if ahead.is_begun() && (known - at >= reach.max(1) || !reading.is_open()) {
         return;
@@ -387,9 +409,12 @@ fn first_known(
     ensures answers { (more : List ℕ) → (is_whole ≡ true → more ≡ [])
         → Answers sought.entry (haystack.now ++ more) from result }
     ensures known { IsFirstKnown (reach_of sought.entry) is_whole from (length haystack.now) result }
-    ensures words { ahead.new.words ≡ ahead.old.words }
-    ensures begun { ahead.new.is_begun ≡ ahead.old.is_begun }
+    ensures same { ahead.new ≡ record ahead.old { cursor = ahead.new.cursor } }
     ensures through { GoesOnAfter sought.entry haystack.now ahead.new result }
+    ensures scans { ScansMore (looked_in_block sought.entry ahead.old) (looked_in_block sought.entry ahead.new)
+        tally.old tally.new }
+    ensures few { looked_in_block sought.entry ahead.new
+        ≤ most_in_block sought.entry (ahead.new.span.end - ahead.new.span.start) }
 {
     let end = haystack.len();
     let found = ahead.next_in(sought, haystack, from, tally);

@@ -1,15 +1,15 @@
 //! Marks for patterns that are longer than a block, in little memory. A backward walk through a long block leaves a
 //! trail: its row at the end of each step. From there a step can be walked through again.
 ghost use Rattle.std.specs.Prelude.{◌≡◌, ◌+◌, ◌-◌, ◌*◌, ◌<◌, ◌≤◌, ◌^◌, ◌%◌, ◌⊎◌, ℕ, length, min};
-ghost use Rattle.std.specs.Prelude.{IfOk, IfSome, None};
+ghost use Rattle.std.specs.Prelude.{IfOk, IfSome, None, false, max};
 ghost use Rattle.std.specs.Result.{IsOkAnd};
 ghost use Rattle.literal_base.specs.Leftmost.{IsLeftmost};
 ghost use Rattle.literal_base.specs.Occurs.{IsValidSpan, between};
 ghost use Rattle.literal_search.specs.Inside.Backward.{AreMarked, AreMarks, ForBackward, IsMatchBy, IsSafe, NoneFrom};
 ghost use Rattle.literal_search.specs.Inside.Backward.{offset_by};
 ghost use Rattle.literal_search.specs.Inside.Leftmost.{HasBytes, IsLane, IsLimit, IsPart};
-ghost use Rattle.literal_search.specs.Inside.Trail.{AreCells, AreTrailed, IsFar, IsStepMarked, IsTrail, led_to};
-ghost use Rattle.literal_search.specs.Inside.Trail.{paid_by};
+ghost use Rattle.literal_search.specs.Inside.Trail.{AreCells, AreTrailed, HasCells, IsFar, IsStepMarked, IsTrail};
+ghost use Rattle.literal_search.specs.Inside.Trail.{led_to, paid_by, step_at};
 ghost use Rattle.literal_search.specs.declared.backward.Continuation.{Continuation};
 
 use crate::backward::{Backward, FAR, LEAST, Marks, no_marks};
@@ -26,10 +26,12 @@ pub(crate) const STEP: usize = 512;
 pub(crate) const MOST: usize = STEP * STEP;
 
 /// The trail of a block: for each step the index of the row of the walk at the step's end, with the highest bit set if
-/// a pattern begins in the step. The numbers are marks of a step.
+/// a pattern begins in the step. The numbers are marks of a step, or of four short ones.
 #[derive(Clone, Copy)]
 pub struct Trail {
     pub block: Span,
+    /// Whether four walks left it, in short steps.
+    pub in_four: bool,
     pub cells: [u32; STEP],
     pub numbers: [u32; STEP],
 }
@@ -41,6 +43,7 @@ impl Trail {
     {
         Trail {
             block: Span { start: at, end: at },
+            in_four: false,
             cells: [0; STEP],
             numbers: [0; STEP],
         }
@@ -127,7 +130,7 @@ impl<'t> Backward<'t> {
             let start = block.start + STEP * i;
             let part = Span { start, end };
             let crossed = self.cross(classes, haystack, span, part, row, limit, tally)?;
-            cells[i] = cell_of(row, crossed.most);
+            cells[i] = cell_of(row, crossed.most >= ENDS);
             row = crossed.row;
             end = start;
         }
@@ -190,13 +193,13 @@ impl<'t> Backward<'t> {
         requires trail { block.end ≤ block.start + STEP * length cells.now }
         requires room { STEP ≤ length numbers.old }
         ensures marked { ForBackward self.now (λ tables. AreCells tables haystack.now span block cells.now block.start
-            → IsOkAnd result (λ m. NoneFrom tables haystack.now span.end from m.first
-            × AreMarked tables haystack.now span m.first numbers.new m)) }
-        ensures placed { IfOk result (IsStepMarked from block.end) }
+            → IsOkAnd result (λ m. NoneFrom tables haystack.now span.end from (max from m.first)
+            × AreMarked tables haystack.now span (max from m.first) numbers.new m)) }
+        ensures placed { IfOk result (IsStepMarked block from) }
         ensures long { length numbers.new ≡ length numbers.old }
         ensures others { tally.new ≡ record tally.old { scanned = tally.new.scanned } }
-        ensures most { IfOk result (λ m. tally.new.scanned + from ≤ tally.old.scanned + m.known) }
-        ensures far { tally.new.scanned + from ≤ tally.old.scanned + block.end }
+        ensures most { IfOk result (λ m. tally.new.scanned + step_at block from ≤ tally.old.scanned + m.known) }
+        ensures far { tally.new.scanned + step_at block from ≤ tally.old.scanned + block.end }
         ensures grows { IfOk result (λ _. tally.old.scanned ≤ tally.new.scanned) }
     {
         let (limit, bytes) = (self.table.limit()?, self.table.class_bytes());
@@ -265,17 +268,8 @@ impl<'t> Backward<'t> {
         if from >= trail.block.end {
             return self.begin_block(haystack, span, from, trail, marks, tally);
         }
-        let numbers = &mut trail.numbers;
-        *marks = self.mark_step(
-            haystack,
-            span,
-            trail.block,
-            from,
-            &trail.cells,
-            numbers,
-            tally,
-        )?;
-        Ok(marks.first)
+        *marks = self.mark_on(haystack, span, from, trail, tally)?;
+        Ok(marks.first.max(from))
     }
 
     /// The same after the last block. A scan passes over bytes up to a candidate. If it passed over enough, this offset
@@ -331,16 +325,63 @@ impl<'t> Backward<'t> {
             *marks = self.mark_offset(haystack, span, at, &mut trail.numbers, tally)?;
             return Ok(at);
         }
-        trail.block = self.block_after(trail.block, span, from, at);
-        *marks = self.mark_trailed(haystack, span, trail, tally)?;
-        Ok(marks.first)
+        self.leave_block(haystack, span, from, at, trail, tally)?;
+        *marks = self.mark_on(haystack, span, at, trail, tally)?;
+        Ok(marks.first.max(at))
     }
 
-    /// The block from an offset on, after one that ended before another offset.
-    fn block_after(&self, before: Span, span: Span, from: usize, at: usize) -> Span
-        requires ordered { before.start ≤ before.end }
-        requires after { before.end ≤ from }
+    /// Leaves the trail of the block from an offset on, after a scan from another one. The block is twice as long as
+    /// the one before it if it follows it closely. If its parts are then long enough, four walks leave the trail.
+    fn leave_block(
+        &self,
+        haystack: &[u8],
+        span: Span,
+        from: usize,
+        at: usize,
+        trail: &mut Trail,
+        tally: &mut Tally,
+    ) -> Result<(), Damaged>
+        requires safe { IsSafe self.now }
+        requires valid { IsValidSpan haystack.now span }
+        requires ordered { trail.old.block.start ≤ trail.old.block.end }
+        requires begun { span.start ≤ from }
         requires passed { from ≤ at }
+        requires inside { at < span.end }
+        ensures trail { ForBackward self.now (λ tables. IsOkAnd result
+            (λ _. IsTrail tables haystack.now span trail.new)) }
+        ensures start { trail.new.block.start ≡ at }
+        ensures some { at < trail.new.block.end }
+        ensures inside { trail.new.block.end ≤ span.end }
+        ensures cells { HasCells trail.new }
+        ensures others { tally.new ≡ record tally.old { scanned = tally.new.scanned } }
+        ensures most { tally.new.scanned + min OVERLAP (span.end - at) + paid_by self.now.table.longest at
+            ≤ tally.old.scanned + paid_by self.now.table.longest trail.new.block.end }
+        ensures least { IfOk result (λ _. tally.old.scanned
+            + min (trail.new.block.end + (self.now.table.longest - 1)) span.end ≤ tally.new.scanned + at) }
+    {
+        let before = trail.block.end - trail.block.start;
+        let double = if at - from < before {
+            before.saturating_mul(2)
+        } else {
+            0
+        };
+        if let Some(steps) = self.short_steps(double, span.end - at) {
+            let end = at + STEP * steps;
+            trail.block = Span { start: at, end };
+            trail.in_four = true;
+            return self.leave_in_four(haystack, span, at, steps, &mut trail.cells, tally);
+        }
+        let block = self.block_at_least(double, span, at);
+        trail.block = block;
+        trail.in_four = false;
+        let (limit, bytes) = (self.table.limit()?, self.table.class_bytes());
+        let cells = &mut trail.cells;
+        self.leave_trail(&bytes, haystack, span, block, limit, cells, tally)
+    }
+
+    /// The block from an offset on through which one walk goes. It is at least as long as the longest pattern, and as
+    /// `least`, if cells suffice.
+    fn block_at_least(&self, least: usize, span: Span, at: usize) -> Span
         requires inside { at < span.end }
         ensures start { result.start ≡ at }
         ensures some { at < result.end }
@@ -349,68 +390,46 @@ impl<'t> Backward<'t> {
         ensures long { (result.end ≡ span.end) ⊎ ((at + self.now.table.longest + OVERLAP ≤ result.end)
             ⊎ (at + MOST ≤ result.end)) }
     {
-        let before = before.end - before.start;
-        let double = if at - from < before {
-            before.saturating_mul(2)
-        } else {
-            0
-        };
-        let least = self.table.longest.saturating_add(OVERLAP).max(LEAST);
-        let len = least.max(double).min(MOST).min(span.end - at);
+        let long = self.table.longest.saturating_add(OVERLAP).max(LEAST);
+        let len = long.max(least).min(MOST).min(span.end - at);
         Span {
             start: at,
             end: at + len,
         }
     }
 
-    /// Leaves the trail of a block, and marks the first step in which a pattern begins.
-    fn mark_trailed(
+    /// Marks the next step of a trail's block, or its next four short steps, from an offset on, in which a pattern
+    /// begins. It walks through each step at most once more.
+    fn mark_on(
         &self,
         haystack: &[u8],
         span: Span,
+        from: usize,
         trail: &mut Trail,
         tally: &mut Tally,
     ) -> Result<Marks, Damaged>
         requires safe { IsSafe self.now }
         requires valid { IsValidSpan haystack.now span }
         requires block { IsPart span trail.old.block }
-        requires some { trail.old.block.start < trail.old.block.end }
-        requires few { trail.old.block.end ≤ trail.old.block.start + MOST }
-        ensures block { trail.new.block ≡ trail.old.block }
-        ensures marked { ForBackward self.now (λ tables. IsOkAnd result
-            (λ m. NoneFrom tables haystack.now span.end trail.old.block.start m.first
-            × AreTrailed tables haystack.now span m.first trail.new m)) }
-        ensures placed { IfOk result (IsStepMarked trail.old.block.start trail.old.block.end) }
+        requires after { trail.old.block.start ≤ from }
+        requires inside { from < trail.old.block.end }
+        requires cells { HasCells trail.old }
+        ensures block { trail.new ≡ record trail.old { numbers = trail.new.numbers } }
+        ensures marked { ForBackward self.now (λ tables. IsTrail tables haystack.now span trail.old
+            → IsOkAnd result (λ m. NoneFrom tables haystack.now span.end from (max from m.first)
+            × AreTrailed tables haystack.now span (max from m.first) trail.new m)) }
+        ensures placed { IfOk result (IsStepMarked trail.old.block from) }
         ensures others { tally.new ≡ record tally.old { scanned = tally.new.scanned } }
-        ensures most { IfOk result (λ m. tally.new.scanned + 2 * trail.old.block.start ≤ tally.old.scanned
-            + min (trail.old.block.end + (self.now.table.longest - 1)) span.end + m.known) }
-        ensures all { tally.new.scanned + 2 * trail.old.block.start ≤ tally.old.scanned
-            + min (trail.old.block.end + (self.now.table.longest - 1)) span.end + trail.old.block.end }
-        ensures least { IfOk result (λ _. tally.old.scanned
-            + min (trail.old.block.end + (self.now.table.longest - 1)) span.end
-            ≤ tally.new.scanned + trail.old.block.start) }
+        ensures most { IfOk result (λ m. tally.new.scanned + step_at trail.old.block from
+            ≤ tally.old.scanned + m.known) }
+        ensures far { tally.new.scanned + step_at trail.old.block from ≤ tally.old.scanned + trail.old.block.end }
+        ensures grows { IfOk result (λ _. tally.old.scanned ≤ tally.new.scanned) }
     {
-        let (limit, bytes) = (self.table.limit()?, self.table.class_bytes());
-        let block = trail.block;
-        self.leave_trail(
-            &bytes,
-            haystack,
-            span,
-            block,
-            limit,
-            &mut trail.cells,
-            tally,
-        )?;
-        let numbers = &mut trail.numbers;
-        self.mark_step(
-            haystack,
-            span,
-            block,
-            block.start,
-            &trail.cells,
-            numbers,
-            tally,
-        )
+        let (block, numbers) = (trail.block, &mut trail.numbers);
+        if trail.in_four {
+            return self.mark_four_steps(haystack, span, block, from, &trail.cells, numbers, tally);
+        }
+        self.mark_step(haystack, span, block, from, &trail.cells, numbers, tally)
     }
 
     /// The leftmost match of the rest of a span, from an offset on, by marks in one step of a block after another.
@@ -461,17 +480,13 @@ impl<'t> Backward<'t> {
     }
 }
 
-/// The number of a trail for the row of a walk at the end of a step, and the largest number that it read in the step.
+/// The number of a trail for the row of a walk at the end of a step, and whether a pattern begins in the step.
 #[inline(always)]
-fn cell_of(row: usize, most: u32) -> u32
+pub(crate) fn cell_of(row: usize, begun: bool) -> u32
     requires small { row < 2 ^ 31 }
     ensures row { result % 2 ^ 31 ≡ row }
-    ensures none { result < 2 ^ 31 → most < 2 ^ 31 }
-    ensures some { most < 2 ^ 31 → result < 2 ^ 31 }
+    ensures none { result < 2 ^ 31 → begun ≡ false }
+    ensures some { begun ≡ false → result < 2 ^ 31 }
 {
-    if most >= ENDS {
-        row as u32 + ENDS
-    } else {
-        row as u32
-    }
+    if begun { row as u32 + ENDS } else { row as u32 }
 }

@@ -1,6 +1,6 @@
 //! Whole words in texts that are read in pieces.
 ghost use Rattle.std.specs.Prelude.{◌≡◌, IfOk};
-ghost use Rattle.literal_search.specs.Stream.{word_stream_of};
+ghost use Rattle.literal_search.specs.Stream.{GivesWordStreamed, ScansWordsStreamed, word_stream_of};
 
 use crate::WholeWords;
 use crate::sought::Sought;
@@ -61,7 +61,7 @@ impl<'s, R: Read + Drop> Model for WholeWordStreamMatches<'s, R> {
     ghost Value = { WordStreamValue };
 
     ghost view = { λ m. record {
-      stream = stream_value m.words.now.search m.stream.window m.stream.at m.stream.reading
+      stream = stream_value (Words m.words) m.stream.window m.stream.at m.stream.ahead m.stream.reading
           (R.remaining m.stream.reader) m.stream.is_over;
       word_bytes = m.words.now.word_bytes;
     } };
@@ -69,7 +69,19 @@ impl<'s, R: Read + Drop> Model for WholeWordStreamMatches<'s, R> {
     ghost invariant = { λ m. m.stream.is_over ≡ false
         → IsSoundStream (reach_of (Words m.words)) m.stream.window m.stream.reading (R.remaining m.stream.reader)
         × AreHeldFrom 1 m.stream.at m.stream.window
-        × IsSearchIn (Words m.words) m.stream.window m.stream.at m.stream.ahead };
+        × IsSearchIn (Words m.words) m.stream.window m.stream.reading m.stream.at m.stream.ahead };
+}
+
+impl<'s, R: Read + Drop> WholeWordStreamMatches<'s, R> {
+    /// Like `next`, and counts each looked-up byte in the tally, as scanned. In all these are at most those of
+    /// [`StreamMatches::next_counted`](crate::StreamMatches::next_counted), and twice n + 1 for each byte that was
+    /// read, with n the longest pattern's length.
+    pub fn next_counted(&mut self, tally: &mut Tally) -> Option<io::Result<Match>>
+        ensures gives { GivesWordStreamed self.old result self.new }
+        ensures scans { ScansWordsStreamed self.old self.new tally.old tally.new }
+    {
+        self.stream.next(Sought::Words(self.words), tally)
+    }
 }
 
 impl<'s, R: Read + Drop> Iterator for WholeWordStreamMatches<'s, R> {
@@ -84,7 +96,6 @@ impl<'s, R: Read + Drop> Iterator for WholeWordStreamMatches<'s, R> {
     /// An error comes only after every whole word that is known from the bytes read. It is the error of the reader, or
     /// [`io::ErrorKind::FileTooLarge`] if a `usize` cannot count more of the text.
     fn next(&mut self) -> Option<io::Result<Match>> {
-        self.stream
-            .next(Sought::Words(self.words), &mut Tally::new())
+        self.next_counted(&mut Tally::new())
     }
 }

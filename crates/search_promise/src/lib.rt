@@ -6,13 +6,13 @@
 //! occurrence once. A search looks up at most three times the bytes of its span, for any patterns. So does a list or an
 //! iteration, for any number of matches, if no pattern has 262,000 bytes; for each whole 262,000 bytes of the longest
 //! pattern it may look up each byte once more. A search by an array into which the `Search` is written has the same
-//! answers.
+//! answers. So has `find_stream`, in any pieces; it looks up at most twice the bytes that a list may look up.
 //!
-//! The contract of [`search_any_list`] says all of this, and is proved only from public contracts and laws.
-//! `test_calls::callers::any_list` runs it.
+//! The contract of [`search_any_list`] says all of this but for streams, that of [`stream_any_list`] the last sentence.
+//! They are proved only from public contracts and laws. `test_calls::callers::any_list` runs them.
 #![tactic(auto)]
 
-ghost use Rattle.std.specs.Prelude.{◌≡◌, ◌+◌, ◌<◌, ◌≤◌, IfErr, IfOk, MatchResult, OnErr, length};
+ghost use Rattle.std.specs.Prelude.{◌≡◌, ◌+◌, ◌*◌, ◌<◌, ◌≤◌, ℕ, List, IfErr, IfOk, MatchResult, OnErr, Some, length};
 ghost use Rattle.literal_base.specs.Greedy.{IsGreedy};
 ghost use Rattle.literal_base.specs.Leftmost.{IsLeftmost};
 ghost use Rattle.literal_base.specs.Occurs.{IsValidSpan};
@@ -23,11 +23,15 @@ ghost use Rattle.literal_search.specs.SearchValue.{CanBeKept, ScansListAtMost, S
 ghost use Rattle.search_promise.specs.AnyList.{IsKeptOrWritten, RefusesAnyList, searched_for};
 
 use literal_base::laws::greedy_is_unique;
-use literal_search::laws::{iterations_give_each_occurrence_once, iterations_scan_at_most};
+use literal_search::laws::{
+    iterations_give_each_occurrence_once, iterations_scan_at_most, streams_are_greedy,
+    streams_scan_at_most,
+};
 use literal_search::{
     ArrayTooShort, BuildError, Match, MatchKind, Overlapping, Prepared, Search, Span, Tally,
 };
 use std::alloc::{AllocError, Global};
+use std::io::{self, Read};
 
 /// Patterns, and how to search for them.
 #[derive(Drop)]
@@ -119,6 +123,24 @@ pub fn search_any_list(
     })
 }
 
+/// Lists the matches in what a reader gives, by the `Search` for a list of patterns. The outer error is its, and the
+/// inner one is the reader's, or memory is refused.
+pub fn stream_any_list<R: Read + Drop>(
+    alloc: Global,
+    asked: &AnySearch<'_>,
+    reader: R,
+    streamed: &mut Tally,
+) -> Result<io::Result<Vec<Match>>, BuildError>
+    ensures refused { IfErr result (RefusesAnyList asked.now) }
+    ensures greedy { IfOk result (λ answer. IfOk answer (λ all. (text : List ℕ) → R.remaining reader ≡ Some text
+        → IsGreedy (searched_for asked.now).query asked.now.ignore_case text 0 all.items)) }
+    ensures scanned { IfOk result (λ answer. IfOk answer (λ _. (text : List ℕ) → R.remaining reader ≡ Some text
+        → ScansListAtMost (searched_for asked.now).query.patterns (2 * length text) streamed.old streamed.new)) }
+{
+    let search = search_for(alloc, asked)?;
+    Ok(taken_from_stream(alloc, &search, reader, streamed))
+}
+
 fn search(
     alloc: Global,
     asked: &AnySearch<'_>,
@@ -188,6 +210,28 @@ fn taken_in_turn(
     let mut iteration = search.find_iter(haystack);
     while let Some(found) = iteration.next_counted(iterated) {
         matches.push(found)?;
+    }
+    Ok(matches)
+}
+
+/// The matches that an iteration over a stream gives.
+fn taken_from_stream<R: Read + Drop>(
+    alloc: Global,
+    search: &Search,
+    reader: R,
+    streamed: &mut Tally,
+) -> io::Result<Vec<Match>>
+    ensures greedy { IfOk result (λ taken. (text : List ℕ) → R.remaining reader ≡ Some text
+        → IsGreedy search.now.query search.now.ignore_case text 0 taken.items) }
+    ensures bounded { IfOk result (λ _. (text : List ℕ) → R.remaining reader ≡ Some text
+        → ScansListAtMost search.now.query.patterns (2 * length text) streamed.old streamed.new) }
+{
+    streams_are_greedy();
+    streams_scan_at_most();
+    let mut matches = Vec::new(alloc);
+    let mut iteration = search.find_stream(alloc, reader)?;
+    while let Some(found) = iteration.next_counted(streamed) {
+        matches.push(found?)?;
     }
     Ok(matches)
 }

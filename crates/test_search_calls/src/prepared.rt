@@ -52,6 +52,9 @@ fn counts_by_an_array(rt: HostRuntime) -> Result<(), Fail> {
     assert!(rt; prepared.match_kind() == MatchKind::LeftmostFirst);
     let (found, so_far) = counted(&array)?;
     assert!(rt; found == second() && so_far == SoFar::NoneBefore(11));
+    let span = Span { start: 3, end: 18 };
+    let candidate = prepared.first_candidate_in_counted(HAYSTACK, span, &mut Tally::new());
+    assert!(rt; candidate == 12);
     Ok(())
 }
 

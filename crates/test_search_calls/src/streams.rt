@@ -64,6 +64,16 @@ fn pieces_make_no_difference(rt: HostRuntime) -> Result<(), Fail> {
     Ok(())
 }
 
+#[test]
+fn counting_gives_the_same_matches(rt: HostRuntime) -> Result<(), Fail> {
+    let (search, tally) = (first_of(rt.alloc(), &[b"ab"])?, &mut Tally::new());
+    let mut matches = search.find_stream(rt.alloc(), b"xab".as_slice())?;
+    let first = Match::must(0, Span { start: 1, end: 3 });
+    assert!(rt; matches.next_counted(tally).ok_or("nothing is found")?? == first);
+    assert!(rt; matches.next_counted(tally).is_none());
+    Ok(())
+}
+
 /// With few bytes read, so that it would read more before it searches.
 #[test]
 fn known_matches_come_before_an_error(rt: HostRuntime) -> Result<(), Fail> {

@@ -1,6 +1,6 @@
 //! Whole words in texts that are read in pieces.
 use crate::pieces::{Interrupted, Pieces, Unflushed};
-use literal_search::{BuildError, Match, MatchKind, ReplaceStreamError, Span, WholeWords};
+use literal_search::{BuildError, Match, MatchKind, ReplaceStreamError, Span, Tally, WholeWords};
 use std::alloc::Global;
 use std::io::{ErrorKind, Write};
 use std::process::Abort;
@@ -21,6 +21,17 @@ fn example_of_a_word_stream(rt: HostRuntime) -> Result<(), Fail> {
     let mut matches = search.find_stream(alloc, b"Yorkers, York".as_slice())?;
     let found = matches.next().ok_or("nothing is found")??;
     assert!(rt; found.pattern().as_usize() == 1 && found.range() == (9..13));
+    Ok(())
+}
+
+#[test]
+fn counting_gives_the_same_words(rt: HostRuntime) -> Result<(), Fail> {
+    let (alloc, tally) = (rt.alloc(), &mut Tally::new());
+    let search = words_of(alloc, MatchKind::LeftmostFirst, &[b"ab"])?;
+    let mut matches = search.find_stream(alloc, b"abc ab".as_slice())?;
+    let first = Match::must(0, Span { start: 4, end: 6 });
+    assert!(rt; matches.next_counted(tally).ok_or("nothing is found")?? == first);
+    assert!(rt; matches.next_counted(tally).is_none());
     Ok(())
 }
 

@@ -1,24 +1,36 @@
 -- Matches that are written for C, one after another, and pages of them.
 -- For `write_page`, `write_overlapping`, `count_matches` and the laws.
 use Rattle.std.proofs.Common.{◌≡◌, ℕ, ◌+◌, ◌<◌, ◌≤◌, Bool, List, [], ◌∷◌, ◌++◌, drop, length, map, take}
-use Rattle.std.proofs.Common.{Some, refl, sym, ap, ◌∙◌, subst, add-one, append-nil, arith, inl, inr}
+use Rattle.std.proofs.Common.{Err, Ok, Result, Some, suc, zero, refl, sym, ap, ◌∙◌, subst, add-one, append-nil}
+use Rattle.std.proofs.Common.{arith, inl, inr}
 use Rattle.std.proofs.lemmas.Bool.{cases_lt}
 use Rattle.std.proofs.Math.ListN.{set}
 use Rattle.std.proofs.Math.Seq.{take-suc-set}
-use Rattle.std.proofs.lemmas.List.{map-append}
+use Rattle.std.proofs.lemmas.List.{length-map, length-take-le, map-append}
 use Rattle.std.proofs.lemmas.List.Elements.{All-push}
 use Rattle.std.specs.Iterator.{Yields}
 use Rattle.std.specs.List.{All}
+use Rattle.std.specs.Result.{IsOkAnd}
 use Rattle.literal_base.specs.Greedy.{IsGreedy}
 use Rattle.literal_base.specs.Leftmost.{IsLeftmostMatch}
 use Rattle.literal_base.specs.MatchValue.{MatchValue}
 use Rattle.literal_base.specs.Occurs.{NothingOccurs, Occurs, between, rest_from}
 use Rattle.literal_base.specs.Query.{Query}
 use Rattle.literal_search.specs.OverlappingMatchesValue.{GivesOverlapping, OverlappingMatchesValue}
-use Rattle.literal_c.specs.Answers.{AreNext, BeginsNone, IsPage, MayBeFound, end_of_last, match_of}
+use Rattle.literal_search.specs.declared.prepared.Damaged.{Damaged}
+use Rattle.literal_c.specs.Answers.{AreNext, BeginsNone, IsCount, IsPage, MayBeFound, end_of_last, match_of}
 use Rattle.literal_c.specs.declared.LiteralMatch.{LiteralMatch}
 use Rattle.literal_c.specs.declared.LiteralPage.{LiteralPage}
 use Rattle.literal_base.specs.declared.search.Span.{Span}
+
+-- the end of the last of some matches does not depend on where they begin
+end_of_some : (a b : ℕ) (all : List MatchValue) → 0 < length all → end_of_last a all ≡ end_of_last b all
+end_of_some a b [] some = absurd (omega (arith, some))
+end_of_some a b (found ∷ more) some = refl
+
+positive : (n : ℕ) → ¬ (n ≡ 0) → 0 < n
+positive zero some = absurd (some refl)
+positive (suc n) some = omega arith
 
 module _ (query : Query) (ignore_case : Bool) (haystack : List ℕ) where
   -- an occurrence behind a place is one behind an earlier place, and the other way round
@@ -88,6 +100,58 @@ module _ (query : Query) (ignore_case : Bool) (haystack : List ℕ) where
         | inr late ↦ none i p (from at next (length haystack) i p late is)
       ]
   greedy at next (found ∷ more) a none = (a.0, greedy found.end next more a.1 none)
+
+  -- none begins before the first candidate
+  pub begins_none : (span : Span) (at : ℕ) → span.start ≤ at
+      → ((i p : ℕ) → Occurs query.patterns ignore_case haystack span i p → (at ≤ p) × (p < span.end))
+      → BeginsNone query ignore_case haystack span.end span.start at
+  begins_none span at after told = (after, λ i p before is. absurd (omega (arith, (told i p is).0, before)))
+
+  -- and none at all if that is the end of the span
+  pub nothing_occurs : (span : Span) (at : ℕ) → at ≡ span.end
+      → ((i p : ℕ) → Occurs query.patterns ignore_case haystack span i p → (at ≤ p) × (p < span.end))
+      → NothingOccurs query.patterns ignore_case haystack span
+  nothing_occurs span at end told = λ i p is. absurd (omega (arith, end, (told i p is).0, (told i p is).1))
+
+  pub count_of_none : (span : Span) → NothingOccurs query.patterns ignore_case haystack span
+      → IsCount query ignore_case haystack span 0
+  count_of_none span none = ([], span.start, none_here span.end span.start, none, refl)
+
+  -- the matches in the rest of a span, before which none begins, are those in the span
+  pub count_in_rest : (span : Span) (at : ℕ) (counted : Result ℕ Damaged)
+      → BeginsNone query ignore_case haystack span.end span.start at
+      → IsOkAnd counted (IsCount query ignore_case haystack (between at span.end))
+      → IsOkAnd counted (IsCount query ignore_case haystack span)
+  count_in_rest span at (Ok count) before (all, next, are, none, is) =
+      (all, next, joined span.end span.start at next [] all before are, none, is)
+  count_in_rest span at (Err damaged) before is = is
+
+  -- so is a page of them, unless it is empty
+  pub page_from : (span : Span) (at : ℕ) (old new : List LiteralMatch) (page : LiteralPage)
+      → BeginsNone query ignore_case haystack span.end span.start at
+      → IsPage query ignore_case haystack (between at span.end) old new page
+      → ¬ ((page.written ≡ 0) × (page.is_last ≡ 1)) → IsPage query ignore_case haystack span old new page
+  page_from span at old new page before is some = record {
+    len = is.len;
+    fits = is.fits;
+    matches = joined span.end span.start at page.next [] (map match_of (take page.written new)) before is.matches;
+    others = is.others;
+    rest = elim is.rest [
+      | inl (last, next, none) ↦ inl (
+        last,
+        next ∙ end_of_some at span.start (map match_of (take page.written new))
+            (omega (
+              arith,
+              is.fits,
+              length-map (take page.written new) match_of,
+              length-take-le page.written new is.fits,
+              positive page.written (λ empty. some (empty, last)),
+            )),
+        none,
+      )
+      | inr more ↦ inr more
+    ];
+  }
 
   -- one more, which is written behind them
   pub one_more : (end at next i : ℕ) (written : List LiteralMatch) (found : LiteralMatch) → i < length written

@@ -1,12 +1,12 @@
 -- Texts of which more may follow. For `literal_find_so_far_in` and `literal_find_all_so_far_in`.
-use Rattle.std.proofs.Common.{◌≡◌, ◌∙◌, ◌++◌, [], ◌∷◌, Bool, List, ℕ, ℤ, ap, append-nil, false, true, refl}
-use Rattle.std.proofs.Common.{of_z, to_z, w32, ◌+◌, ◌-◌, ◌≤◌, None, Option, Some, arith, length}
-use Rattle.std.proofs.Common.{length-append, length-drop, max, slice_range, subst, suc, sym, zero}
-use Rattle.std.proofs.lemmas.List.{drop-append-le, take-append-le}
+use Rattle.std.proofs.Common.{◌≡◌, ◌∙◌, ◌++◌, [], Bool, List, ℕ, ℤ, ap, append-nil, false, true, refl}
+use Rattle.std.proofs.Common.{of_z, to_z, w32, ◌+◌, ◌-◌, ◌≤◌, None, Option, Some, arith, length, max, subst, sym}
 use Rattle.literal_base.specs.Leftmost.{IsLeftmost, IsLeftmostMatch}
 use Rattle.literal_base.specs.MatchValue.{MatchValue}
-use Rattle.literal_base.specs.Occurs.{Occurs, between, pattern_at}
+use Rattle.literal_base.specs.Occurs.{Occurs, between}
 use Rattle.literal_base.specs.Query.{Query}
+use Rattle.literal_search.proofs.lemmas.Longest.{longest_is}
+use Rattle.literal_search.proofs.lemmas.Streams.{leftmost_longer, occurs_prefix}
 use Rattle.literal_search.specs.SearchValue.{longest_of}
 use Rattle.literal_search.specs.declared.stream.SoFar.{SoFar}
 use Rattle.literal_search.specs.declared.stream.SoFar.TheVariants.{Found, NoneBefore}
@@ -32,46 +32,6 @@ pub crosses : (answer : SoFar) (status : ℤ) (found : LiteralMatch) (next : ℕ
 crosses (Found it) status found next told = subst (λ s. to_z w32 (of_z w32 s) ≡ s) (sym told.0) refl
 crosses (NoneBefore place) status found next told = subst (λ s. to_z w32 (of_z w32 s) ≡ s) (sym told.0) refl
 
--- no pattern is longer than the longest
-longest_is : (patterns : List (List ℕ)) (i : ℕ) → length (pattern_at patterns i) ≤ longest_of patterns
-longest_is [] i = omega arith
-longest_is (bytes ∷ more) zero = omega arith
-longest_is (bytes ∷ more) (suc i) = omega (arith, longest_is more i)
-
--- A text that begins with the held bytes.
-module _ (patterns : List (List ℕ)) (ignore_case : Bool) (held behind : List ℕ) where
-  -- a part of the held bytes is the same part of the text
-  same_part : (p n : ℕ) → p + n ≤ length held → slice_range (held ++ behind) p (p + n) ≡ slice_range held p (p + n)
-  same_part p n inside = grind (arith, length-drop, drop-append-le, take-append-le)
-
-  -- what lies in the held bytes occurs in them exactly if it occurs in the text
-  occurs_held : (at i p : ℕ) → p + length (pattern_at patterns i) ≤ length held
-      → Occurs patterns ignore_case (held ++ behind) (between at (length (held ++ behind))) i p
-      → Occurs patterns ignore_case held (between at (length held)) i p
-  occurs_held at i p inside occurs = grind (arith, same_part)
-
-  occurs_longer : (at i p : ℕ) → Occurs patterns ignore_case held (between at (length held)) i p
-      → Occurs patterns ignore_case (held ++ behind) (between at (length (held ++ behind))) i p
-  occurs_longer at i p occurs = grind (arith, same_part, length-append)
-
--- a match for which the longest pattern would fit is the leftmost one of the text too
-leftmost_longer : (query : Query) (ignore_case : Bool) (held behind : List ℕ) (at : ℕ) (found : MatchValue)
-    → found.start + longest_of query.patterns ≤ length held
-    → IsLeftmostMatch query ignore_case held (between at (length held)) found
-    → IsLeftmostMatch query ignore_case (held ++ behind) (between at (length (held ++ behind))) found
-leftmost_longer query ignore_case held behind at found room first = record {
-  occurs = occurs_longer query.patterns ignore_case held behind at found.pattern found.start first.occurs;
-  whole = first.whole;
-  earliest = λ i p before occurs.
-      first.earliest i p before
-      (occurs_held query.patterns ignore_case held behind at i p
-      (omega (arith, longest_is query.patterns i, before, room)) occurs);
-  best = λ i better occurs.
-      first.best i better
-      (occurs_held query.patterns ignore_case held behind at i found.start
-      (omega (arith, longest_is query.patterns i, room)) occurs);
-}
-
 -- a known match is the leftmost one of the text, whatever may follow
 pub leftmost_known : (query : Query) (ignore_case more : Bool) (held behind : List ℕ) (at : ℕ) (found : MatchValue)
     → MayFollow more behind → found.start + deciding_len more (longest_of query.patterns) ≤ length held
@@ -93,14 +53,14 @@ pub none_known : (query : Query) (ignore_case more : Bool) (held behind : List �
 none_known query ignore_case true held behind at None may inside unknown nothing = (
   omega arith,
   λ i p before occurs.
-      nothing i p (occurs_held query.patterns ignore_case held behind at i p
+      nothing i p (occurs_prefix query.patterns ignore_case held behind at i p
       (omega (arith, longest_is query.patterns i, before, occurs.after_start)) occurs),
 )
 none_known query ignore_case true held behind at (Some found) may inside unknown first = (
   omega arith,
   λ i p before occurs.
       first.earliest i p (omega (arith, before, unknown, occurs.after_start))
-      (occurs_held query.patterns ignore_case held behind at i p
+      (occurs_prefix query.patterns ignore_case held behind at i p
       (omega (arith, longest_is query.patterns i, before, occurs.after_start)) occurs),
 )
 none_known query ignore_case false held behind at None may inside unknown nothing = (

@@ -9,7 +9,7 @@ use Rattle.literal_search.specs.declared.cursor.Room.{Room}
 use Rattle.literal_search.specs.declared.cursor.Room.TheVariants.{Block, Trailed}
 use Rattle.literal_search.specs.Inside.Trail.{IsFar, led_to, paid_by}
 use Rattle.literal_search.specs.LookUps.{LookUps, LooksOn, ScansNext, ScansRest, no_look_ups}
-use Rattle.literal_search.specs.SearchValue.{ScansThrice, looked_by}
+use Rattle.literal_search.specs.SearchValue.{ScansThrice}
 use Rattle.literal_search.specs.declared.backward.Marks.{Marks}
 use Rattle.literal_search.specs.declared.trail.Trail.{Trail}
 use Rattle.literal_search.proofs.lemmas.Passes.{paid_and_marked, paid_from, paid_on, thrice}

@@ -10,13 +10,13 @@ use Rattle.literal_base.specs.Leftmost.{IsLeftmostMatch}
 use Rattle.literal_base.specs.MatchValue.{MatchValue}
 use Rattle.literal_base.specs.Occurs.{between}
 use Rattle.literal_base.specs.declared.search.Span.{Span}
-use Rattle.literal_search.specs.Inside.Backward.{AreBackFor, AreMarks, HasReadBack, IsMark, NoneBeginsAt, NoneFrom}
+use Rattle.literal_search.specs.Inside.Backward.{AreBackFor, HasReadBack, HoldIn, IsMark, NoneBeginsAt, NoneFrom}
 use Rattle.literal_search.specs.Inside.Backward.{back_tables_by}
-use Rattle.literal_search.specs.Inside.Leftmost.{AreLanes, AreMarksAfter, AreSteps, HaveRows, IsFirstStart, IsLane}
+use Rattle.literal_search.specs.Inside.Leftmost.{AreLanes, AreMarksAfter, AreSteps, HaveRows, HoldAfter, IsFirstStart}
 use Rattle.literal_fingerprints.specs.CandidateScans.{ahead_by_pair}
 use Rattle.literal_fingerprints.specs.declared.candidates.CandidateScan.{CandidateScan}
 use Rattle.literal_fingerprints.specs.declared.pair.RarePair.{RarePair}
-use Rattle.literal_search.specs.Inside.Leftmost.{IsLimit, ahead_by, owed_by}
+use Rattle.literal_search.specs.Inside.Leftmost.{IsLane, IsLimit, ahead_by, owed_by}
 use Rattle.literal_search.specs.Inside.Leftmost.{IsStep, NoneAfter}
 use Rattle.literal_search.specs.Inside.Leftmost.{ReadsFor}
 use Rattle.literal_search.specs.Prepared.{AreBackTables, BackTables}
@@ -239,42 +239,39 @@ pub one_more : (a b : Counts) → a ≡ b
     ≡ (let t : Counts = record b { scanned = b.scanned + 1 } in t)
 one_more a b same = ap (λ (n : Counts). let n' : Counts = record n { scanned = n.scanned + 1 } in n') same
 
--- a mark in another offset stays
-pub marks_kept : (p : BackTables) (haystack : List ℕ) (end : ℕ) (marks : List ℕ) (at from upto slot code : ℕ)
-    → at ≤ from
-    → (at + slot < from) ⊎ (upto ≤ at + slot) → AreMarks p haystack end marks at from upto
-    → AreMarks p haystack end (set marks slot code) at from upto
-marks_kept p haystack end marks at from upto slot code after apart are k behind before =
-    grind (arith, get_or-set_other)
+-- a number of another offset stays
+pub held_kept : (R : ℕ → ℕ → Type 0) (numbers : List ℕ) (at from upto slot number : ℕ) → at ≤ from
+    → (at + slot < from) ⊎ (upto ≤ at + slot) → HoldIn R numbers at from upto
+    → HoldIn R (set numbers slot number) at from upto
+held_kept R numbers at from upto slot number after apart are k behind before = grind (arith, get_or-set_other)
 
 -- and one more is written
-pub marks_on : (p : BackTables) (haystack : List ℕ) (end : ℕ) (marks : List ℕ) (at to next upto slot code : ℕ)
-    → at ≤ to → next ≡ to + 1 → at + slot ≡ to → slot < length marks → IsMark p haystack end to code
-    → AreMarks p haystack end marks at next upto → AreMarks p haystack end (set marks slot code) at to upto
-marks_on p haystack end marks at to next upto slot code after next_is slot_is inside mark are k behind before =
+pub held_on : (R : ℕ → ℕ → Type 0) (numbers : List ℕ) (at to next upto slot number : ℕ) → at ≤ to → next ≡ to + 1
+    → at + slot ≡ to → slot < length numbers → R to number → HoldIn R numbers at next upto
+    → HoldIn R (set numbers slot number) at to upto
+held_on R numbers at to next upto slot number after next_is slot_is inside holds are k behind before =
     grind (arith, cases_lt, get_or-set_other, get_or-set_same)
 
--- four marks are written, one in each of four neighbouring parts
+-- four numbers are written, one in each of four neighbouring parts
 abbrev pub set_four : List ℕ → ℕ → ℕ → Lanes → List ℕ
 set_four marks step part codes =
     set (set (set (set marks step codes.first) (step + part) codes.second) (step + 2 * part) codes.third)
     (step + 3 * part) codes.fourth
 
--- those of the numbers that four walks read are marks of one offset more of each part
-pub marks_in_four : (p : BackTables) (haystack : List ℕ) (span : Span) (at part step next : ℕ) (marks : List ℕ)
-    (codes : Lanes) → next ≡ step + 1 → next ≤ part → 4 * part ≤ length marks
-    → AreSteps p haystack span at part step codes → AreMarksAfter p haystack span.end marks at part next
-    → AreMarksAfter p haystack span.end (set_four marks step part codes) at part step
-marks_in_four p haystack span at part step next marks codes next_is before room steps are =
-    let end = span.end in
+-- for one offset more of each part
+pub held_in_four : (R : ℕ → ℕ → Type 0) (at part step next : ℕ) (marks : List ℕ) (codes : Lanes) → next ≡ step + 1
+    → next ≤ part → 4 * part ≤ length marks → R (at + step) codes.first → R (at + part + step) codes.second
+    → R (at + 2 * part + step) codes.third → R (at + 3 * part + step) codes.fourth → HoldAfter R marks at part next
+    → HoldAfter R (set_four marks step part codes) at part step
+held_in_four R at part step next marks codes next_is before room first second third fourth are =
     let marks1 = set marks step codes.first in
     let marks2 = set marks1 (step + part) codes.second in
     let marks3 = set marks2 (step + 2 * part) codes.third in
     let long1 : length marks1 ≡ length marks = length-set marks step codes.first in
     let long2 : length marks2 ≡ length marks = length-set marks1 (step + part) codes.second ∙ long1 in
     let long3 : length marks3 ≡ length marks = length-set marks2 (step + 2 * part) codes.third ∙ long2 in
-    let kept = marks_kept p haystack end in
-    let on = marks_on p haystack end in
+    let kept = held_kept R in
+    let on = held_on R in
     record {
       first =
           kept marks3 at (at + step) (at + part) (step + 3 * part) codes.fourth (omega arith)
@@ -282,7 +279,7 @@ marks_in_four p haystack span at part step next marks codes next_is before room 
           (kept marks2 at (at + step) (at + part) (step + 2 * part) codes.third (omega arith) (inr (omega arith))
           (kept marks1 at (at + step) (at + part) (step + part) codes.second (omega arith) (inr (omega arith))
           (on marks at (at + step) (at + next) (at + part) step codes.first (omega arith) (omega (arith, next_is))
-          (omega arith) (omega (arith, room, before, next_is)) (steps.first.mark (omega (arith, before, next_is)))
+          (omega arith) (omega (arith, room, before, next_is)) first
           are.first)));
       second =
           kept marks3 at (at + part + step) (at + 2 * part) (step + 3 * part) codes.fourth (omega arith)
@@ -291,7 +288,7 @@ marks_in_four p haystack span at part step next marks codes next_is before room 
           (inr (omega arith))
           (on marks1 at (at + part + step) (at + part + next) (at + 2 * part) (step + part) codes.second (omega arith)
           (omega (arith, next_is)) (omega arith) (omega (arith, room, before, long1, next_is))
-          (steps.second.mark (omega (arith, before, next_is)))
+          second
           (kept marks at (at + part + next) (at + 2 * part) step codes.first (omega arith)
           (inl (omega (arith, before, next_is))) are.second)));
       third =
@@ -299,7 +296,7 @@ marks_in_four p haystack span at part step next marks codes next_is before room 
           (inr (omega arith))
           (on marks2 at (at + 2 * part + step) (at + 2 * part + next) (at + 3 * part) (step + 2 * part) codes.third
           (omega arith) (omega (arith, next_is)) (omega arith) (omega (arith, room, before, long2, next_is))
-          (steps.third.mark (omega (arith, before, next_is)))
+          third
           (kept marks1 at (at + 2 * part + next) (at + 3 * part) (step + part) codes.second (omega arith)
           (inl (omega (arith, before, next_is)))
           (kept marks at (at + 2 * part + next) (at + 3 * part) step codes.first (omega arith)
@@ -307,7 +304,7 @@ marks_in_four p haystack span at part step next marks codes next_is before room 
       fourth =
           on marks3 at (at + 3 * part + step) (at + 3 * part + next) (at + 4 * part) (step + 3 * part) codes.fourth
           (omega arith) (omega (arith, next_is)) (omega arith) (omega (arith, room, before, long3, next_is))
-          (steps.fourth.mark (omega (arith, before, next_is)))
+          fourth
           (kept marks2 at (at + 3 * part + next) (at + 4 * part) (step + 2 * part) codes.third (omega arith)
           (inl (omega (arith, before, next_is)))
           (kept marks1 at (at + 3 * part + next) (at + 4 * part) (step + part) codes.second (omega arith)
@@ -316,13 +313,23 @@ marks_in_four p haystack span at part step next marks codes next_is before room 
           (inl (omega (arith, before, next_is))) are.fourth)));
     }
 
+-- those of the numbers that four walks read are marks
+pub marks_in_four : (p : BackTables) (haystack : List ℕ) (span : Span) (at part step next : ℕ) (marks : List ℕ)
+    (codes : Lanes) → next ≡ step + 1 → next ≤ part → 4 * part ≤ length marks
+    → AreSteps p haystack span at part step codes → AreMarksAfter p haystack span.end marks at part next
+    → AreMarksAfter p haystack span.end (set_four marks step part codes) at part step
+marks_in_four p haystack span at part step next marks codes next_is before room steps are =
+    held_in_four (IsMark p haystack span.end) at part step next marks codes next_is before room
+    (steps.first.mark (omega (arith, before, next_is))) (steps.second.mark (omega (arith, before, next_is)))
+    (steps.third.mark (omega (arith, before, next_is))) (steps.fourth.mark (omega (arith, before, next_is))) are
+
 -- of cleared marks each says that nothing begins, which is so behind some offsets of each part
 pub cleared_marks : (p : BackTables) (haystack : List ℕ) (end : ℕ) (marks : List ℕ) (at part left : ℕ)
     → ((k : ℕ) → k < 4 * part → get_or marks k 0 ≡ 0) → NoneAfter p haystack end at part left
     → AreMarksAfter p haystack end marks at part left
 cleared_marks p haystack end marks at part left cleared none = grind arith
 
--- and marks of all offsets of each part are those of a block
-pub marks_of_four : (p : BackTables) (haystack : List ℕ) (end : ℕ) (marks : List ℕ) (at part : ℕ)
-    → AreMarksAfter p haystack end marks at part 0 → AreMarks p haystack end marks at at (at + 4 * part)
-marks_of_four p haystack end marks at part are k after before = grind (arith, cases_lt)
+-- and what holds of all offsets of each part holds of those of a block
+pub held_of_four : (R : ℕ → ℕ → Type 0) (numbers : List ℕ) (at part : ℕ) → HoldAfter R numbers at part 0
+    → HoldIn R numbers at at (at + 4 * part)
+held_of_four R numbers at part are k after before = grind (arith, cases_lt)

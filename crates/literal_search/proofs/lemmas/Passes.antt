@@ -49,29 +49,24 @@ block_paid longest len (inr most) =
     let each : n * 262144 ≤ n * len = mul-le-mul_left n most in
     omega (arith, add-mul 2 n len, each)
 
--- a scan up to a block, a walk that leaves its trail, and marks of a part of it
-pub block_scanned : (longest from at end upto known owed t0 t1 t2 : ℕ) → from ≤ at → at ≤ known → known ≤ end
-    → end ≤ upto → owed ≤ 19 → (end ≡ upto) ⊎ ((at + longest + 19 ≤ end) ⊎ (at + 262144 ≤ end))
-    → t1 + 3 * from ≤ t0 + 3 * at + min owed (upto - at)
-    → t2 + 2 * at ≤ t1 + min (end + (longest - 1)) upto + known
-    → t2 + paid_by longest from + from ≤ t0 + paid_by longest end + known
-block_scanned longest from at end upto known owed t0 t1 t2 passed after within inside few (inl ended) scan walk =
-    omega (arith, passed, after, within, few, ended, scan, walk, paid_on longest from end (omega arith))
-block_scanned longest from at end upto known owed t0 t1 t2 passed after within inside few (inr long) scan walk =
+-- a block that one walk goes through, and the bytes after it
+pub walk_paid : (longest at end upto t0 t1 : ℕ) → at ≤ end → end ≤ upto
+    → (end ≡ upto) ⊎ ((at + longest + 19 ≤ end) ⊎ (at + 262144 ≤ end))
+    → t1 + at ≤ t0 + min (end + (longest - 1)) upto
+    → t1 + min 19 (upto - at) + paid_by longest at ≤ t0 + paid_by longest end
+walk_paid longest at end upto t0 t1 after inside (inl ended) walk =
+    omega (arith, after, ended, walk, paid_on longest at end after)
+walk_paid longest at end upto t0 t1 after inside (inr long) walk =
     let enough : (longest + 19 ≤ end - at) ⊎ (262144 ≤ end - at) = elim long [
       | inl all ↦ inl (omega (arith, all))
       | inr most ↦ inr (omega (arith, most))
     ] in
-    omega (
-      arith,
-      passed,
-      after,
-      within,
-      inside,
-      few,
-      scan,
-      walk,
-      paid_on longest from at passed,
-      paid_from longest at end (omega (arith, after, within)),
-      block_paid longest (end - at) enough,
-    )
+    omega (arith, after, walk, paid_from longest at end after, block_paid longest (end - at) enough)
+
+-- a scan up to a block, a trail of it, and marks of a part of it
+pub block_scanned : (longest from at end upto known owed t0 t1 t2 t3 : ℕ) → from ≤ at → owed ≤ 19
+    → t1 + 3 * from ≤ t0 + 3 * at + min owed (upto - at)
+    → t2 + min 19 (upto - at) + paid_by longest at ≤ t1 + paid_by longest end → t3 + at ≤ t2 + known
+    → t3 + paid_by longest from + from ≤ t0 + paid_by longest end + known
+block_scanned longest from at end upto known owed t0 t1 t2 t3 passed few scan trail marks =
+    omega (arith, passed, few, scan, trail, marks, paid_on longest from at passed)

@@ -17,6 +17,7 @@ use Rattle.literal_search.specs.WholeWords.{IsFirstAlone, OccursAlone, WholeWord
 use Rattle.literal_search.specs.Inside.Stream.{Answers, AnswersAhead, AreHeldFrom, AreMatches, Begins, IsFirst}
 use Rattle.literal_search.specs.Inside.Stream.{IsSearchIn, IsThrough, IsWindow, TellsOf, block, held, margin_of}
 use Rattle.literal_search.specs.Inside.Stream.{reach_of, search_of, shifted, told_later}
+use Rattle.literal_search.specs.declared.reading.Reading.{Reading}
 use Rattle.literal_search.specs.declared.sought.BlockSearch.{BlockSearch}
 use Rattle.literal_search.specs.declared.sought.Sought.{Sought}
 use Rattle.literal_search.specs.declared.sought.Sought.TheVariants.{Any, Words}
@@ -302,13 +303,14 @@ answers_in_block s w at base bytes more answer window from base_is bytes_are ans
     (subst (λ (l : List ℕ). Answers s l (at - base) answer) text answers)
 
 -- a search in a window goes on if its block stays
-pub search_stays : (s : Sought) (w v : Window) (at : ℕ) (b : BlockSearch) → block v ≡ block w
-    → v.offset - v.passed ≡ w.offset - w.passed → IsSearchIn s w at b → IsSearchIn s v at b
-search_stays s w v at b same begins is = record {
+pub search_stays : (s : Sought) (w v : Window) (r : Reading) (at : ℕ) (b : BlockSearch) → block v ≡ block w
+    → v.offset - v.passed ≡ w.offset - w.passed → IsSearchIn s w r at b → IsSearchIn s v r at b
+search_stays s w v r at b same begins is = record {
   tables = is.tables;
   through = λ begun.
       subst (λ (n : ℕ). IsThrough s (block v) (at - n) b) (sym begins)
       (subst (λ (l : List ℕ). IsThrough s l (at - (w.offset - w.passed)) b) (sym same) (is.through begun));
+  long = is.long;
 }
 
 -- what is known of the leftmost answer for a text holds whatever follows

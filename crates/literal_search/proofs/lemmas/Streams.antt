@@ -24,8 +24,10 @@ use Rattle.literal_search.specs.Stream.{EndsFailed, EndsWhole, GivesAhead, GoesB
 use Rattle.literal_search.specs.Stream.{PassesOver}
 use Rattle.literal_search.specs.Stream.{ReadsOn, StreamValue, known, stream_over}
 use Rattle.literal_search.specs.Inside.Stream.{GoesThrough, HasGoneOn, HasPassed, HasReadOn, IsOpen, IsSoundReading}
-use Rattle.literal_search.specs.Inside.Stream.{IsWindow, block, held, stream_value}
+use Rattle.literal_search.specs.Inside.Stream.{IsWindow, block, held, looked_so_far, stream_value}
 use Rattle.literal_search.specs.declared.reading.Reading.{Reading}
+use Rattle.literal_search.specs.declared.sought.BlockSearch.{BlockSearch}
+use Rattle.literal_search.specs.declared.sought.Sought.{Sought}
 use Rattle.literal_search.specs.declared.window.Window.{Window}
 pub use Rattle.literal_fingerprints.proofs.lemmas.Skipped.{part_behind}
 use Rattle.literal_search.proofs.lemmas.Longest.{longest_is}
@@ -140,6 +142,18 @@ ended_on is_whole r s first piece before on is =
       ap (λ (q : Reading). q.is_whole) still.1 ∙ was.1,
     )
 
+-- a search as contracts see it, after bytes were passed over
+pub value_past : (sought : Sought) (w v : Window) (at to n : ℕ) (b : BlockSearch) (r s : Reading)
+    (unread : Option (List ℕ)) (is_over : Bool) (bytes : List ℕ) → to ≡ n → held v ≡ bytes → s.failure ≡ r.failure
+    → s.is_whole ≡ r.is_whole
+    → stream_value sought v to b s unread is_over ≡ record (stream_value sought w at b r unread false) {
+      held = bytes;
+      offset = n;
+      is_over = is_over;
+      look_ups = looked_so_far sought v to b;
+    }
+value_past sought w v at to n b r s unread is_over bytes to_is held_is failure_is whole_is = grind arith
+
 -- nothing is known to follow where nothing is left to be read
 pub known_end : (unread : Option (List ℕ)) → IsAtEnd unread → known unread ≡ []
 known_end unread over = grind arith
@@ -224,7 +238,11 @@ module _ (IsFirst : List ℕ → ℕ → Option MatchValue → Type 0) (Begins :
     pub gone_past : (old now new : StreamValue) (to : ℕ) → now.offset ≤ to
         → (to - margin) - (now.offset - margin) ≤ length now.held
         → ((more : List ℕ) → PassesOver IsFirst Begins margin now.offset to (now.held ++ more))
-        → new ≡ record now { held = drop ((to - margin) - (now.offset - margin)) now.held; offset = to }
+        → new ≡ record now {
+          held = drop ((to - margin) - (now.offset - margin)) now.held;
+          offset = to;
+          look_ups = new.look_ups;
+        }
         → HasGoneOn IsFirst Begins margin old now → HasGoneOn IsFirst Begins margin old new
     gone_past old now new to later within none is gone =
         let passed = passed_more old.offset now.offset (old.held ++ gone.piece) now.held gone.passed to later within
@@ -232,12 +250,12 @@ module _ (IsFirst : List ℕ → ℕ → Option MatchValue → Type 0) (Begins :
         grind arith
 
     -- it reads on
-    pub gone_on : (old : StreamValue) (searched : SearchValue) (w v : Window) (at : ℕ) (r s : Reading)
+    pub gone_on : (old : StreamValue) (sought : Sought) (w v : Window) (at : ℕ) (b d : BlockSearch) (r s : Reading)
         (unread left : Option (List ℕ)) → IsSoundReading r unread
         → (piece : List ℕ) × Consumes unread left piece × (held v ≡ held w ++ piece) × HasReadOn r piece s
-        → HasGoneOn IsFirst Begins margin old (stream_value searched w at r unread false)
-        → HasGoneOn IsFirst Begins margin old (stream_value searched v at s left false)
-    gone_on old searched w v at r s unread left sound read gone =
+        → HasGoneOn IsFirst Begins margin old (stream_value sought w at b r unread false)
+        → HasGoneOn IsFirst Begins margin old (stream_value sought v at d s left false)
+    gone_on old sought w v at b d r s unread left sound read gone =
         let passed = gone.passed in
         record {
           piece = gone.piece ++ read.0;
@@ -270,6 +288,7 @@ module _ (IsFirst : List ℕ → ℕ → Option MatchValue → Type 0) (Begins :
         held = [];
         offset = (now.offset - margin) + length now.held;
         is_over = true;
+        look_ups = new.look_ups;
       } → new ≡ stream_over IsFirst Begins margin old gone.piece new
       over_all is =
           let same = gone.search_is in
@@ -285,6 +304,7 @@ module _ (IsFirst : List ℕ → ℕ → Option MatchValue → Type 0) (Begins :
           → new ≡ record now {
             held = drop ((found.end - margin) - (now.offset - margin)) now.held;
             offset = found.end;
+            look_ups = new.look_ups;
           }
           → GoesBehind IsFirst Begins margin old found new
       goes_behind found first end some within fits is =
@@ -320,7 +340,12 @@ module _ (IsFirst : List ℕ → ℕ → Option MatchValue → Type 0) (Begins :
       -- where it is over
       pub ends_whole : now.is_whole ≡ true → IsAtEnd now.unread → now.failure ≡ None
           → IsFirstAhead IsFirst Begins margin now.offset None now.held
-          → new ≡ record now { held = []; offset = (now.offset - margin) + length now.held; is_over = true }
+          → new ≡ record now {
+            held = [];
+            offset = (now.offset - margin) + length now.held;
+            is_over = true;
+            look_ups = new.look_ups;
+          }
           → EndsWhole IsFirst Begins margin old new
       ends_whole whole end sound nothing is =
           let unread_is : new.unread ≡ now.unread = ap (λ (m : StreamValue). m.unread) is in
@@ -345,7 +370,12 @@ module _ (IsFirst : List ℕ → ℕ → Option MatchValue → Type 0) (Begins :
           → ((more : List ℕ) → PassesOver IsFirst Begins margin now.offset
           ((now.offset - margin) + length now.held - (longest_of old.search.query.patterns + margin - 1))
           (now.held ++ more))
-          → new ≡ record now { held = []; offset = (now.offset - margin) + length now.held; is_over = true }
+          → new ≡ record now {
+            held = [];
+            offset = (now.offset - margin) + length now.held;
+            is_over = true;
+            look_ups = new.look_ups;
+          }
           → EndsFailed IsFirst Begins margin old error new
       ends_failed error end failed none is =
           let unread_is : new.unread ≡ now.unread = ap (λ (m : StreamValue). m.unread) is in

@@ -97,10 +97,13 @@ pub record IsBlock (longest : ℕ) (span block : Span) : Type 0 where
 abbrev pub NoneFrom : BackTables → List ℕ → ℕ → ℕ → ℕ → Type 0
 NoneFrom p haystack end from upto = (at : ℕ) → from ≤ at → at < upto → NoneBeginsAt p haystack end at
 
--- there is a mark of each offset between two offsets, in a list that begins with the mark of `start`
+-- a relation holds of each offset from one up to another, and its number in a list that begins with that of `start`
+abbrev pub HoldIn : (ℕ → ℕ → Type 0) → List ℕ → ℕ → ℕ → ℕ → Type 0
+HoldIn R numbers start from upto = (at : ℕ) → from ≤ at → at < upto → R at (slice_index numbers (at - start))
+
+-- these numbers are marks
 abbrev pub AreMarks : BackTables → List ℕ → ℕ → List ℕ → ℕ → ℕ → ℕ → Type 0
-AreMarks p haystack end marks start from upto =
-    (at : ℕ) → from ≤ at → at < upto → IsMark p haystack end at (slice_index marks (at - start))
+AreMarks p haystack end marks start from upto = HoldIn (IsMark p haystack end) marks start from upto
 
 -- the offset from which a list continues after an answer
 abbrev pub offset_by : Continuation → Span → Option MatchValue → ℕ

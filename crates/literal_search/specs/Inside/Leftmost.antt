@@ -7,7 +7,7 @@ use Rattle.literal_base.specs.declared.search.Span.{Span}
 use Rattle.literal_fingerprints.specs.CandidateScans.{IsScanFor, ahead_of}
 use Rattle.literal_fingerprints.specs.declared.candidates.CandidateScan.{CandidateScan}
 use Rattle.literal_search.specs.SearchValue.{first_part}
-use Rattle.literal_search.specs.Inside.Backward.{AreMarks, ForBackward, HasReadBack, IsMark, NoneFrom}
+use Rattle.literal_search.specs.Inside.Backward.{ForBackward, HasReadBack, HoldIn, IsMark, NoneFrom}
 use Rattle.literal_search.specs.Inside.Walk.{classes_by, rows_by}
 use Rattle.literal_search.specs.Prepared.{BackTables, past_skipped}
 use Rattle.literal_search.specs.declared.backward.Backward.{Backward}
@@ -107,14 +107,17 @@ pub record HavePassed (b : Backward) (haystack : List ℕ) (span : Span) (at par
       → ¬ NoneFrom tables haystack span.end at (at + 4 * part))
   pub counted : new ≡ record old { scanned = old.scanned + 4 * (part - (passed.left - 1)) }
 
--- there are marks of each offset of four adjacent parts after the first `left` bytes of each, in a list that begins
--- with the mark of the first part's start
-pub record AreMarksAfter (p : BackTables) (haystack : List ℕ) (end : ℕ) (marks : List ℕ) (at part left : ℕ)
-    : Type 0 where
-  pub first : AreMarks p haystack end marks at (at + left) (at + part)
-  pub second : AreMarks p haystack end marks at (at + part + left) (at + 2 * part)
-  pub third : AreMarks p haystack end marks at (at + 2 * part + left) (at + 3 * part)
-  pub fourth : AreMarks p haystack end marks at (at + 3 * part + left) (at + 4 * part)
+-- in each of four adjacent parts a relation holds of each offset after the first `left`, and its number in a list that
+-- begins with that of the first part's start
+pub record HoldAfter (R : ℕ → ℕ → Type 0) (numbers : List ℕ) (at part left : ℕ) : Type 0 where
+  pub first : HoldIn R numbers at (at + left) (at + part)
+  pub second : HoldIn R numbers at (at + part + left) (at + 2 * part)
+  pub third : HoldIn R numbers at (at + 2 * part + left) (at + 3 * part)
+  pub fourth : HoldIn R numbers at (at + 3 * part + left) (at + 4 * part)
+
+-- these numbers are marks
+abbrev pub AreMarksAfter : BackTables → List ℕ → ℕ → List ℕ → ℕ → ℕ → ℕ → Type 0
+AreMarksAfter p haystack end marks = HoldAfter (IsMark p haystack end) marks
 
 -- a block of four parts from an offset on, and a lead after them for each walk. If the last lead reaches the end of the
 -- span, it may belong to the block

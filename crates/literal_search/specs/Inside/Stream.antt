@@ -1,6 +1,6 @@
 -- The known part of a text that is read in pieces, and what a search finds in it.
 use Rattle.std.specs.Prelude.{⊤, ◌≡◌, ℕ, ◌+◌, ◌-◌, ◌*◌, ◌<◌, ◌≤◌, ◌^◌, ◌++◌, Bool, false, List, None, Option, Some}
-use Rattle.std.specs.Prelude.{[], IfSome, drop, if◌then◌else◌, length, max, true}
+use Rattle.std.specs.Prelude.{[], IfSome, drop, if◌then◌else◌, is_none, length, max, true}
 use Rattle.std.specs.Io.KnownBytes.{IsAtEnd}
 use Rattle.std.specs.IoError.{error_kind}
 use Rattle.std.specs.List.{slice_range}
@@ -10,11 +10,11 @@ use Rattle.literal_base.specs.Leftmost.{IsLeftmost}
 use Rattle.literal_base.specs.MatchValue.{MatchValue}
 use Rattle.literal_base.specs.Occurs.{IsValidSpan, Occurs, rest_from}
 use Rattle.literal_base.specs.declared.search.Span.{Span}
-use Rattle.literal_search.specs.SearchValue.{SearchValue, longest_of}
-use Rattle.literal_search.specs.Stream.{PassesOver, ReadsPiece, StreamValue}
-use Rattle.literal_search.specs.WholeWords.{AreWordsFrom, IsFirstAlone, OccursAlone}
+use Rattle.literal_search.specs.SearchValue.{SearchValue, longest_of, most_scanned}
+use Rattle.literal_search.specs.Stream.{PassesOver, ReadsPiece, StreamValue, most_words_scanned}
+use Rattle.literal_search.specs.WholeWords.{AreWordsFrom, IsFirstAlone, OccursAlone, most_at_start}
 use Rattle.literal_search.specs.Inside.Backward.{AreBackFor, ForBackward, IsSafe}
-use Rattle.literal_search.specs.Inside.Cursor.{IsCursor, KnowsAhead}
+use Rattle.literal_search.specs.Inside.Cursor.{IsCursor, KnowsAhead, look_ups_of}
 use Rattle.literal_search.specs.Inside.WholeWords.{AreTablesFor}
 use Rattle.literal_search.specs.declared.reading.Reading.{Reading}
 use Rattle.literal_search.specs.declared.sought.BlockSearch.{BlockSearch}
@@ -124,10 +124,35 @@ pub record IsThrough (sought : Sought) (block : List ℕ) (at : ℕ) (s : BlockS
   pub looks_from : LooksFrom sought s.cursor.at at
   pub inside : at ≤ s.span.end
 
--- if it has begun, it goes through the block of a window, and continues at an offset of the text
-pub record IsSearchIn (sought : Sought) (w : Window) (at : ℕ) (s : BlockSearch) : Type 0 where
+-- if it has begun, it goes through the block of a window, and continues at an offset of the text. Unless no more can
+-- be read, the block and the bytes held before it are at least twice as many as those that decide about a match
+pub record IsSearchIn (sought : Sought) (w : Window) (r : Reading) (at : ℕ) (s : BlockSearch) : Type 0 where
   pub tables : AreTablesOf sought s.words
   pub through : s.is_begun ≡ true → IsThrough sought (block w) (at - (w.offset - w.passed)) s
+  pub long : s.is_begun ≡ true → IsOpen r
+      → 2 * reach_of sought ≤ (s.span.end - s.span.start) + margin_of sought
+
+-- the most bytes that are looked up in a block of so many bytes
+abbrev pub most_in_block : Sought → ℕ → ℕ
+most_in_block (Any search) = most_scanned (longest_of search.now.query.patterns)
+most_in_block (Words words) = most_words_scanned (longest_of words.now.search.query.patterns)
+
+-- the most bytes that a search has looked up in its block so far
+abbrev pub looked_in_block : Sought → BlockSearch → ℕ
+looked_in_block (Any search) s = (look_ups_of s.words.backward.table.longest s.span s.cursor).most
+looked_in_block (Words words) s = (look_ups_of s.words.backward.table.longest s.span s.cursor).most
+    + (s.cursor.at - s.span.start) * most_at_start s.words.backward.table.longest
+
+-- the most bytes that it has looked up in the text so far. Each byte before its block was in at most two blocks
+unfoldable pub looked_so_far : Sought → Window → ℕ → BlockSearch → ℕ
+looked_so_far sought w at s = if s.is_begun
+    then 2 * most_in_block sought ((w.offset - w.passed) + s.span.start) + looked_in_block sought s
+    else 2 * most_in_block sought at
+
+-- the offset before which no byte is looked up again after an answer: if reading failed, the end of all that was read
+abbrev pub done_to : Window → Reading → SoFar → ℕ
+done_to w r (Found found) = found.end
+done_to w r (NoneBefore offset) = if is_none r.error then offset else w.offset + length (held w)
 
 -- after a match in a block it continues at its end
 abbrev pub GoesOnAfter : Sought → List ℕ → BlockSearch → SoFar → Type 0
@@ -161,15 +186,16 @@ IsFirstKnown reach is_whole at end (Found found) = (at ≤ found.start) × (foun
 IsFirstKnown reach is_whole at end (NoneBefore offset) = offset ≡ max at (end - kept_back reach is_whole)
 
 -- a search that continues at an offset, as contracts see it
-abbrev pub stream_value : SearchValue → Window → ℕ → Reading → Option (List ℕ) → Bool → StreamValue
-stream_value search w at r unread is_over = record {
-  search = search;
+abbrev pub stream_value : Sought → Window → ℕ → BlockSearch → Reading → Option (List ℕ) → Bool → StreamValue
+stream_value sought w at s r unread is_over = record {
+  search = search_of sought;
   held = held w;
   unread = unread;
   offset = at;
   failure = r.failure;
   is_whole = r.is_whole;
   is_over = is_over;
+  look_ups = looked_so_far sought w at s;
 }
 
 -- the match, so many bytes later

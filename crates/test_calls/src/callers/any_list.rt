@@ -1,6 +1,6 @@
 //! The guarantees of the searches for any list, together, for worked cases.
 use literal_search::{BuildError, Match, MatchKind, Span, Tally};
-use search_promise::{AnyFound, AnySearch, search_any_list};
+use search_promise::{AnyFound, AnySearch, search_any_list, stream_any_list};
 use std::alloc::Global;
 use std::test::Fail;
 
@@ -36,5 +36,7 @@ fn searches_for_any_list(rt: HostRuntime) -> Result<(), Fail> {
     assert!(rt; any.by_array == Ok(Some(Match::must(0, Span { start: 28, end: 33 }))));
     assert!(rt; any.searched.all.len() == 3 && any.searched.list.len() == 3);
     assert!(rt; any.occurring.all.len() == 5);
+    let streamed = stream_any_list(rt.alloc(), &asked, HAYSTACK, &mut Tally::new())??;
+    assert!(rt; streamed.len() == 3);
     Ok(())
 }

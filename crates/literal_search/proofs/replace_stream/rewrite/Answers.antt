@@ -87,13 +87,15 @@ loop-is_over-preserved g c =
     record {
       sound = grind arith;
       held_from = rw margin_is at c.hold_from.ensures.from;
-      search = search_stays c.args.sought v c.hold_from.new.self to c.next_known.new.ahead
+      search = search_stays c.args.sought v c.hold_from.new.self c.next_known.new.reading to c.next_known.new.ahead
           c.hold_from.ensures.block c.hold_from.ensures.begins (elim c.match-next_known.branch [
             | in-Found+in_ok-put-in-Found+in_ok-after_write-in-Found w ↦
                 let there : w.in-Found.found.end ≡ to = sym (w.to-is ∙ w.end-to.ensures.end) in
-                subst (λ (n : ℕ). IsSearchIn c.args.sought v n c.next_known.new.ahead) there w.in-Found.ensures.search
+                subst (λ (n : ℕ). IsSearchIn c.args.sought v c.next_known.new.reading n c.next_known.new.ahead) there
+                w.in-Found.ensures.search
             | in-NoneBefore+in_ok-put-in-NoneBefore w ↦
-                subst (λ (n : ℕ). IsSearchIn c.args.sought v n c.next_known.new.ahead) (sym w.to-is)
+                subst (λ (n : ℕ). IsSearchIn c.args.sought v c.next_known.new.reading n c.next_known.new.ahead)
+                (sym w.to-is)
                 w.in-NoneBefore.ensures.search
           ]);
       rewritten = elim c.match-next_known.branch [

@@ -9,7 +9,7 @@ abbrev pub invariant-loop-is_over : goal.invariant-loop-is_over
 invariant-loop-is_over g l = record {
   sound : IsSoundStream (reach_of l.sought) l.window l.reading (g.R.Read.remaining l.reader);
   held_from : AreHeldFrom (margin_of l.sought) l.at l.window;
-  search : IsSearchIn l.sought l.window l.at l.ahead;
+  search : IsSearchIn l.sought l.window l.reading l.at l.ahead;
   rewritten : HasRewritten g.W.Write.contents (goal.F-step g) l.sought l.reading.is_whole l.at (held l.window)
       (g.R.Read.remaining l.fn.reader) (g.R.Read.remaining l.reader) l.fn.replace (g.W.Write.contents l.fn.writer)
       l.replace (g.W.Write.contents l.writer);

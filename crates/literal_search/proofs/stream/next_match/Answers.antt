@@ -1,13 +1,19 @@
-use Rattle.std.proofs.Common.{◌≡◌, ◌+◌, ◌-◌, ◌≤◌, ◌++◌, ◌∙◌, [], List, ℕ, None, Some, ap, append-nil, arith}
+use Rattle.std.proofs.Common.{Option}
+use Rattle.std.specs.Bool.{if◌then◌else◌}
+use Rattle.std.specs.Option.{is_none}
+use Rattle.std.specs.declared.io.Error.{Error}
+use Rattle.std.proofs.Common.{◌≡◌, ◌+◌, ◌-◌, ◌≤◌, ◌++◌, ◌∙◌, [], List, ℕ, None, Some, ap, append-nil, arith, drop}
 use Rattle.std.proofs.Common.{false, length, length-append, refl, subst, sym, true}
 use Rattle.std.proofs.Math.Seq.{drop-length}
 use Rattle.std.specs.IoError.{error_kind}
 use Rattle.literal_search.specs.SearchValue.{longest_of}
 use Rattle.literal_search.specs.Inside.Stream.{Begins, IsFirst, IsSearchIn, held, kept_back, margin_of, reach_of}
-use Rattle.literal_search.specs.Inside.Stream.{search_of, stream_value}
+use Rattle.literal_search.specs.Inside.Stream.{looked_so_far, search_of, stream_value}
+use Rattle.literal_search.proofs.lemmas.StreamCounts.{done_at_end, few_at_end, few_in_window, same_so_far}
+use Rattle.literal_search.proofs.lemmas.StreamCounts.{scans_on}
 use Rattle.literal_search.proofs.lemmas.Sought.{goes_from, nothing_last, search_stays}
 use Rattle.literal_search.proofs.lemmas.Streams.{ends_failed, ends_whole, goes_behind, gone_nowhere, gone_on, gone_past}
-use Rattle.literal_search.proofs.lemmas.Streams.{held_fits, read_in_part, read_whole}
+use Rattle.literal_search.proofs.lemmas.Streams.{held_fits, read_in_part, read_whole, value_past}
 use Rattle.literal_search.proofs.stream.next_match.Goals as goal
 
 pub loop-found-init : goal.loop-found-init
@@ -16,6 +22,7 @@ loop-found-init g c = record {
   held = c.requires.held;
   search = c.requires.search;
   gone = grind (arith, goes_from, gone_nowhere);
+  scans = record { others = refl; most = omega arith };
 }
 
 pub returns-in-Found-clause-gives : goal.returns-in-Found-clause-gives
@@ -24,11 +31,12 @@ returns-in-Found-clause-gives g c =
     let margin = margin_of sought in
     let search = search_of sought in
     let at = c.loop-found.at in
-    let old = stream_value search c.args.window.now c.args.at.now c.args.reading.now
+    let old = stream_value sought c.args.window.now c.args.at.now c.args.ahead.now c.args.reading.now
     (g.R.Read.remaining c.args.reader.now) false in
     let before = c.loop-found.invariant in
     let v = c.next_known.new.window in
     let s = c.next_known.new.reading in
+    let next = c.next_known.new.ahead in
     let left = g.R.Read.remaining c.next_known.new.reader in
     let one = c.in-Found.ensures in
     let found = c.in-Found.found in
@@ -36,13 +44,16 @@ returns-in-Found-clause-gives g c =
     let held_is = c.hold_from.ensures.held in
     let end_is = c.end.ensures.end in
     let begin = one.held.begin in
-    goes_behind (IsFirst sought) (Begins sought) margin (goes_from sought) old (stream_value search v at s left false)
-    (stream_value search c.hold_from.new.self c.end.result s left false)
-    (gone_on (IsFirst sought) (Begins sought) margin (goes_from sought) old search c.loop-found.window v at
-    c.loop-found.reading s _ left before.sound.reading one.read before.gone) found
+    goes_behind (IsFirst sought) (Begins sought) margin (goes_from sought) old
+    (stream_value sought v at next s left false)
+    (stream_value sought c.hold_from.new.self c.end.result next s left false)
+    (gone_on (IsFirst sought) (Begins sought) margin (goes_from sought) old sought c.loop-found.window v at
+    c.loop-found.ahead next c.loop-found.reading s _ left before.sound.reading one.read before.gone) found
     (λ more over. one.answers more over) one.sound.reading.whole
     (omega (arith, one.known.0, one.known.1)) (omega (arith, one.known.2, begin))
-    (omega (arith, one.known.2, held_fits v one.sound.window)) (cc)
+    (omega (arith, one.known.2, held_fits v one.sound.window))
+    (value_past sought v c.hold_from.new.self at c.end.result found.end next s s left false _ end_is
+    (held_is ∙ ap (λ n. drop n (held v)) (omega (arith, end_is, margin_is, begin))) refl refl)
 
 pub returns-in-Found-clause-sound : goal.returns-in-Found-clause-sound
 returns-in-Found-clause-sound g c =
@@ -56,10 +67,27 @@ returns-in-Found-clause-sound g c =
         reading = one.sound.reading;
       },
       rw margin_is at c.hold_from.ensures.from,
-      search_stays sought v c.hold_from.new.self c.end.result c.next_known.new.ahead c.hold_from.ensures.block
+      search_stays sought v c.hold_from.new.self c.next_known.new.reading c.end.result c.next_known.new.ahead
+          c.hold_from.ensures.block
           c.hold_from.ensures.begins
-          (subst (λ (at : ℕ). IsSearchIn sought v at c.next_known.new.ahead) (sym c.end.ensures.end) one.search),
+          (subst (λ (at : ℕ). IsSearchIn sought v c.next_known.new.reading at c.next_known.new.ahead)
+          (sym c.end.ensures.end) one.search),
     )
+
+pub returns-in-Found-clause-scans : goal.returns-in-Found-clause-scans
+returns-in-Found-clause-scans g c =
+    let sought = c.args.sought in
+    let v = c.next_known.new.window in
+    let next = c.next_known.new.ahead in
+    scans_on c.loop-found.invariant.scans c.in-Found.ensures.scans
+    (ap (λ n. looked_so_far sought c.hold_from.new.self n next) c.end.ensures.end
+    ∙ same_so_far sought v c.hold_from.new.self c.in-Found.found.end next c.hold_from.ensures.begins)
+
+pub returns-in-Found-clause-few : goal.returns-in-Found-clause-few
+returns-in-Found-clause-few g c =
+    let sound = returns-in-Found-clause-sound g c in
+    few_in_window c.args.sought c.hold_from.new.self c.next_known.new.reading c.end.result c.next_known.new.ahead
+    sound.0.window sound.1 sound.2
 
 pub loop-found-preserved : goal.loop-found-preserved
 loop-found-preserved g c =
@@ -67,11 +95,12 @@ loop-found-preserved g c =
     let margin = margin_of sought in
     let search = search_of sought in
     let at = c.loop-found.at in
-    let old = stream_value search c.args.window.now c.args.at.now c.args.reading.now
+    let old = stream_value sought c.args.window.now c.args.at.now c.args.ahead.now c.args.reading.now
     (g.R.Read.remaining c.args.reader.now) false in
     let before = c.loop-found.invariant in
     let v = c.next_known.new.window in
     let s = c.next_known.new.reading in
+    let next = c.next_known.new.ahead in
     let left = g.R.Read.remaining c.next_known.new.reader in
     let one = c.in-NoneBefore.ensures in
     let offset = c.in-NoneBefore.offset in
@@ -83,16 +112,41 @@ loop-found-preserved g c =
     record {
       sound = grind arith;
       held = rw margin_is at c.hold_from-in-NoneBefore.ensures.from;
-      search = search_stays sought v c.hold_from-in-NoneBefore.new.self offset c.next_known.new.ahead
+      search = search_stays sought v c.hold_from-in-NoneBefore.new.self s offset next
           c.hold_from-in-NoneBefore.ensures.block c.hold_from-in-NoneBefore.ensures.begins one.search;
       gone = gone_past (IsFirst sought) (Begins sought) margin (goes_from sought) old
-          (stream_value search v at s left false)
-          (stream_value search c.hold_from-in-NoneBefore.new.self offset s left false) offset
+          (stream_value sought v at next s left false)
+          (stream_value sought c.hold_from-in-NoneBefore.new.self offset next s left false) offset
           (omega (arith, one.known)) (omega (arith, one.known, begin, reach))
-          (λ more. one.answers more (λ is. absurd (cc))) (cc)
-          (gone_on (IsFirst sought) (Begins sought) margin (goes_from sought) old search c.loop-found.window v at
-          c.loop-found.reading s _ left before.sound.reading one.read before.gone);
+          (λ more. one.answers more (λ is. absurd (cc)))
+          (value_past sought v c.hold_from-in-NoneBefore.new.self at offset offset next s s left false _ refl
+          (held_is ∙ ap (λ n. drop n (held v)) (omega (arith, margin_is, begin))) refl refl)
+          (gone_on (IsFirst sought) (Begins sought) margin (goes_from sought) old sought c.loop-found.window v at
+          c.loop-found.ahead next c.loop-found.reading s _ left before.sound.reading one.read before.gone);
+      scans = scans_on before.scans one.scans
+          (same_so_far sought v c.hold_from-in-NoneBefore.new.self offset next
+          c.hold_from-in-NoneBefore.ensures.begins
+          ∙ ap (λ (e : Option Error). looked_so_far sought v (if is_none e then offset else v.offset + length (held v))
+          next) (sym (c.if-is_open.ensures.0 refl).1));
     }
+
+pub returns-in-Some-clause-scans : goal.returns-in-Some-clause-scans
+returns-in-Some-clause-scans g c =
+    let v = c.next_known.new.window in
+    let one = c.in-NoneBefore-2.ensures in
+    let len = ap (λ (l : List ℕ). length l) c.held.ensures in
+    scans_on c.loop-found.invariant.scans one.scans
+    (done_at_end c.args.sought v c.pass.new.self c.next_known.new.reading c.in-NoneBefore-2.field-0
+    c.next_known.new.ahead c.pass.ensures.begins (omega (arith, c.pass.ensures.offset, len)) c.loop-found.at
+    (λ more. let is : false ≡ true = c.if-is_open.ensures.1 more in (cc)) one.known one.held.reach)
+
+pub returns-in-Some-clause-few : goal.returns-in-Some-clause-few
+returns-in-Some-clause-few g c =
+    let one = c.in-NoneBefore-2.ensures in
+    let len = ap (λ (l : List ℕ). length l) c.held.ensures in
+    few_at_end c.args.sought c.next_known.new.window c.pass.new.self c.next_known.new.reading
+    c.in-NoneBefore-2.field-0 c.next_known.new.ahead c.pass.ensures.begins
+    (omega (arith, c.pass.ensures.offset, len)) one.sound.window one.search
 
 pub returns-in-Some-clause-gives : goal.returns-in-Some-clause-gives
 returns-in-Some-clause-gives g c =
@@ -100,11 +154,12 @@ returns-in-Some-clause-gives g c =
     let margin = margin_of sought in
     let search = search_of sought in
     let at = c.loop-found.at in
-    let old = stream_value search c.args.window.now c.args.at.now c.args.reading.now
+    let old = stream_value sought c.args.window.now c.args.at.now c.args.ahead.now c.args.reading.now
     (g.R.Read.remaining c.args.reader.now) false in
     let before = c.loop-found.invariant in
     let v = c.next_known.new.window in
     let s = c.next_known.new.reading in
+    let next = c.next_known.new.ahead in
     let left = g.R.Read.remaining c.next_known.new.reader in
     let one = c.in-NoneBefore-2.ensures in
     let failure = c.take_error.ensures.failure in
@@ -119,13 +174,35 @@ returns-in-Some-clause-gives g c =
     let far : (at - margin) + length (held v) - (longest_of search.query.patterns + margin - 1)
     ≤ c.in-NoneBefore-2.field-0 =
     omega (arith, one.known, begin, ap (kept_back (reach_of sought)) in_part) in
-    ends_failed (IsFirst sought) (Begins sought) margin (goes_from sought) old (stream_value search v at s left false)
-    (stream_value search c.pass.new.self c.pass.new.self.offset c.take_error.new.self left true)
-    (gone_on (IsFirst sought) (Begins sought) margin (goes_from sought) old search c.loop-found.window v at
-    c.loop-found.reading s _ left before.sound.reading one.read before.gone) c.in-Some.error one.sound.reading.whole
+    ends_failed (IsFirst sought) (Begins sought) margin (goes_from sought) old
+    (stream_value sought v at next s left false)
+    (stream_value sought c.pass.new.self c.pass.new.self.offset next c.take_error.new.self left true)
+    (gone_on (IsFirst sought) (Begins sought) margin (goes_from sought) old sought c.loop-found.window v at
+    c.loop-found.ahead next c.loop-found.reading s _ left before.sound.reading one.read before.gone) c.in-Some.error
+    one.sound.reading.whole
     failed
     (λ more prefix is i p begins.
-    omega (arith, far, one.answers more (λ over. absurd (cc)) prefix is i p begins)) (cc)
+    omega (arith, far, one.answers more (λ over. absurd (cc)) prefix is i p begins))
+    (value_past sought v c.pass.new.self at c.pass.new.self.offset _ next s c.take_error.new.self left true [] offset_is
+    behind failure same)
+
+pub returns-in-None-clause-scans : goal.returns-in-None-clause-scans
+returns-in-None-clause-scans g c =
+    let v = c.next_known.new.window in
+    let one = c.in-NoneBefore-2.ensures in
+    let len = ap (λ (l : List ℕ). length l) c.held.ensures in
+    scans_on c.loop-found.invariant.scans one.scans
+    (done_at_end c.args.sought v c.pass.new.self c.next_known.new.reading c.in-NoneBefore-2.field-0
+    c.next_known.new.ahead c.pass.ensures.begins (omega (arith, c.pass.ensures.offset, len)) c.loop-found.at
+    (λ more. let is : false ≡ true = c.if-is_open.ensures.1 more in (cc)) one.known one.held.reach)
+
+pub returns-in-None-clause-few : goal.returns-in-None-clause-few
+returns-in-None-clause-few g c =
+    let one = c.in-NoneBefore-2.ensures in
+    let len = ap (λ (l : List ℕ). length l) c.held.ensures in
+    few_at_end c.args.sought c.next_known.new.window c.pass.new.self c.next_known.new.reading
+    c.in-NoneBefore-2.field-0 c.next_known.new.ahead c.pass.ensures.begins
+    (omega (arith, c.pass.ensures.offset, len)) one.sound.window one.search
 
 pub returns-in-None-clause-gives : goal.returns-in-None-clause-gives
 returns-in-None-clause-gives g c =
@@ -133,11 +210,12 @@ returns-in-None-clause-gives g c =
     let margin = margin_of sought in
     let search = search_of sought in
     let at = c.loop-found.at in
-    let old = stream_value search c.args.window.now c.args.at.now c.args.reading.now
+    let old = stream_value sought c.args.window.now c.args.at.now c.args.ahead.now c.args.reading.now
     (g.R.Read.remaining c.args.reader.now) false in
     let before = c.loop-found.invariant in
     let v = c.next_known.new.window in
     let s = c.next_known.new.reading in
+    let next = c.next_known.new.ahead in
     let left = g.R.Read.remaining c.next_known.new.reader in
     let one = c.in-NoneBefore-2.ensures in
     let failure = c.take_error.ensures.failure in
@@ -150,10 +228,12 @@ returns-in-None-clause-gives g c =
     let begin = one.held.begin in
     let offset_is : c.pass.new.self.offset ≡ (at - margin) + length (held v) = grind arith in
     let far : (at - margin) + length (held v) ≤ c.in-NoneBefore-2.field-0 = grind arith in
-    ends_whole (IsFirst sought) (Begins sought) margin (goes_from sought) old (stream_value search v at s left false)
-    (stream_value search c.pass.new.self c.pass.new.self.offset c.take_error.new.self left true)
-    (gone_on (IsFirst sought) (Begins sought) margin (goes_from sought) old search c.loop-found.window v at
-    c.loop-found.reading s _ left before.sound.reading one.read before.gone) whole (one.sound.reading.whole whole) none
+    ends_whole (IsFirst sought) (Begins sought) margin (goes_from sought) old
+    (stream_value sought v at next s left false)
+    (stream_value sought c.pass.new.self c.pass.new.self.offset next c.take_error.new.self left true)
+    (gone_on (IsFirst sought) (Begins sought) margin (goes_from sought) old sought c.loop-found.window v at
+    c.loop-found.ahead next c.loop-found.reading s _ left before.sound.reading one.read before.gone) whole
+    (one.sound.reading.whole whole) none
     (λ prefix is. nothing_last sought (prefix ++ held v) at one.not_empty (λ i p begins.
     omega (
       arith,
@@ -162,4 +242,6 @@ returns-in-None-clause-gives g c =
       length-append prefix (held v),
       one.answers [] (λ over. refl) prefix is i p
           (subst (λ (l : List ℕ). Begins sought (prefix ++ l) at i p) (sym (append-nil (held v))) begins),
-    ))) (cc)
+    )))
+    (value_past sought v c.pass.new.self at c.pass.new.self.offset _ next s c.take_error.new.self left true [] offset_is
+    behind failure same)

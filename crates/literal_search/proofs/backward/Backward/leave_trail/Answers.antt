@@ -1,4 +1,5 @@
-use Rattle.std.proofs.Common.{◌≡◌, ◌+◌, ◌-◌, ◌*◌, ◌∙◌, arith, subst, sym}
+use Rattle.std.proofs.Common.{◌≡◌, ◌+◌, ◌-◌, ◌*◌, ◌^◌, ◌∙◌, arith, subst, sym}
+use Rattle.std.proofs.lemmas.Bool.{leb-false}
 use Rattle.std.proofs.lemmas.List.{length-set}
 use Rattle.literal_search.specs.Inside.Backward.{back_tables_by}
 use Rattle.literal_search.specs.Inside.Leftmost.{IsLane}
@@ -25,7 +26,7 @@ loop-i-preserved c =
           (subst (λ n. IsLane p c.args.haystack.now c.args.span block.end c.loop-i.end n) (sym c.cell_of.ensures.row)
           (so_far.lane search is))
           (λ small. c.in_ok-crossed.ensures.none search is block.end (omega (arith, so_far.end)) (so_far.lane search is)
-          (c.cell_of.ensures.none small))
+          (leb-false (2 ^ 31) _ (c.cell_of.ensures.none small)))
           (so_far.cells search is);
       others = grind arith;
       scanned = omega (arith, c.in_ok-crossed.ensures.all, so_far.scanned);

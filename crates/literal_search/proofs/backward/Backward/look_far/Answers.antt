@@ -38,6 +38,8 @@ returns-in_err-marks-clause-all c =
     omega (
       arith,
       c.in_err-marks.ensures.far,
+      far.whole (omega (arith, c.if-from-marks.false, c.if-from-trail.false)),
+      c.if-from-marks.false,
       paid_on c.args.self.now.table.longest c.args.trail.now.block.end c.args.span.end far.part.inside,
     )
 
@@ -48,5 +50,7 @@ returns-clause-all c =
       arith,
       c.in_ok-marks.ensures.most,
       c.in_ok-marks.ensures.placed.inside,
+      far.whole (omega (arith, c.if-from-marks.false, c.if-from-trail.false)),
+      c.if-from-marks.false,
       paid_on c.args.self.now.table.longest c.args.trail.now.block.end c.args.span.end far.part.inside,
     )

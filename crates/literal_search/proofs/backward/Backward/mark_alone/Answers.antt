@@ -1,11 +1,11 @@
 use Rattle.std.proofs.Common.{◌≡◌, ◌+◌, ◌-◌, ◌∙◌, ap, arith, refl}
 use Rattle.std.proofs.lemmas.List.{length-set}
 use Rattle.literal_base.specs.Counts.{Counts}
-use Rattle.literal_search.specs.Inside.Backward.{AreBackFor, back_tables_by}
+use Rattle.literal_search.specs.Inside.Backward.{AreBackFor, IsMark, back_tables_by}
 use Rattle.literal_search.specs.Inside.Leftmost.{IsStep}
 use Rattle.literal_search.specs.SearchValue.{SearchValue}
 use Rattle.literal_search.proofs.lemmas.Backward.{ticked_on}
-use Rattle.literal_search.proofs.lemmas.Leftmost.{marks_on}
+use Rattle.literal_search.proofs.lemmas.Leftmost.{held_on}
 use Rattle.literal_search.proofs.backward.Backward.mark_alone.Goals as goal
 
 pub loop-at-init : goal.loop-at-init
@@ -37,7 +37,8 @@ loop-at-preserved c =
       row = c.in_ok-code.ensures.leads;
       long = length-set c.loop-at.numbers (at - start) code ∙ so_far.long;
       lane = λ search is. (step search is).lane;
-      marks = λ search is. marks_on (back_tables_by search c.args.self.now) c.args.haystack.now c.args.span.end
+      marks = λ search is. held_on (IsMark (back_tables_by search c.args.self.now) c.args.haystack.now
+          c.args.span.end)
           c.loop-at.numbers start at now end (at - start) code (omega arith) next (omega arith)
           (omega (arith, so_far.long, so_far.inside, c.requires.room))
           ((step search is).mark (omega (arith, so_far.inside)))

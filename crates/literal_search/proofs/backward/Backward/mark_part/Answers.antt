@@ -1,11 +1,11 @@
 use Rattle.std.proofs.Common.{◌≡◌, ◌+◌, ◌-◌, ◌∙◌, ℕ, ap, arith, refl}
 use Rattle.std.proofs.lemmas.List.{length-set}
 use Rattle.literal_base.specs.Counts.{Counts}
-use Rattle.literal_search.specs.Inside.Backward.{AreBackFor, back_tables_by}
+use Rattle.literal_search.specs.Inside.Backward.{AreBackFor, IsMark, back_tables_by}
 use Rattle.literal_search.specs.Inside.Leftmost.{IsLane, IsStep}
 use Rattle.literal_search.specs.SearchValue.{SearchValue}
 use Rattle.literal_search.proofs.lemmas.Backward.{ticked_on}
-use Rattle.literal_search.proofs.lemmas.Leftmost.{marks_on}
+use Rattle.literal_search.proofs.lemmas.Leftmost.{held_on}
 use Rattle.literal_search.proofs.backward.Backward.mark_part.Goals as goal
 
 pub returns-in_err-code-clause-marks : goal.returns-in_err-code-clause-marks
@@ -34,8 +34,8 @@ loop-at-preserved c =
       row = c.in_ok-code.ensures.leads;
       long = length-set c.loop-at.numbers (at - start) code ∙ so_far.long;
       lane = λ search is end lane. (step search is end lane).lane;
-      marks = λ search is end before lane. marks_on (back_tables_by search c.args.self.now) c.args.haystack.now
-          c.args.span.end c.loop-at.numbers start at now c.args.part.end (at - start) code (omega arith) next
+      marks = λ search is end before lane. held_on (IsMark (back_tables_by search c.args.self.now) c.args.haystack.now
+          c.args.span.end) c.loop-at.numbers start at now c.args.part.end (at - start) code (omega arith) next
           (omega arith)
           (omega (arith, so_far.long, so_far.inside, c.requires.room))
           ((step search is end lane).mark (omega (arith, so_far.inside, before)))

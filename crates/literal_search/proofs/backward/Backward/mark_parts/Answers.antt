@@ -6,7 +6,7 @@ use Rattle.literal_search.specs.Inside.Backward.{AreBackFor, back_tables_by}
 use Rattle.literal_search.specs.Inside.Leftmost.{AreLanes, AreSteps}
 use Rattle.literal_search.specs.SearchValue.{SearchValue}
 use Rattle.literal_search.specs.declared.leftmost.Lanes.{Lanes}
-use Rattle.literal_search.proofs.lemmas.Leftmost.{marks_in_four, marks_of_four, one_more, rows_of_steps, steps_in_four}
+use Rattle.literal_search.proofs.lemmas.Leftmost.{held_of_four, marks_in_four, one_more, rows_of_steps, steps_in_four}
 use Rattle.literal_search.proofs.backward.Backward.mark_parts.Goals as goal
 
 pub returns-then-not-are_rows-clause-marks : goal.returns-then-not-are_rows-clause-marks
@@ -92,4 +92,4 @@ loop-step-preserved c =
 
 pub returns-clause-marks : goal.returns-clause-marks
 returns-clause-marks c = λ search is lanes marked.
-    grind (arith, marks_of_four)
+    grind (arith, held_of_four)

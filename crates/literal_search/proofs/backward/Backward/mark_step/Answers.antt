@@ -1,4 +1,4 @@
-use Rattle.std.proofs.Common.{◌+◌, ◌*◌, ap, arith, get_or, min, refl, subst, sym}
+use Rattle.std.proofs.Common.{◌+◌, ◌*◌, ap, arith, get_or, max, min, refl, subst, sym}
 use Rattle.literal_base.specs.Counts.{Counts}
 use Rattle.literal_search.specs.Inside.Backward.{AreMarked, NoneFrom, back_tables_by}
 use Rattle.literal_search.specs.declared.backward.Marks.{Marks}
@@ -69,13 +69,13 @@ returns-then-cell-ge-ENDS-clause-marked c = λ search is are.
     let to = start + c.min.result in
     let lane = are.lane c.loop-at.i to (omega arith) (omega (arith, so_far.begun test, test))
     (omega (arith, c.min.ensures, so_far.begun test, test)) in (
-      so_far.none search is are,
+      λ k after before. so_far.none search is are k after (omega (arith, before, so_far.after)),
       record {
-        marks = c.in_ok-mark_part.ensures.marks search is c.args.block.end
+        marks = λ k after before. c.in_ok-mark_part.ensures.marks search is c.args.block.end
             (omega (arith, c.min.ensures, so_far.begun test, test))
             (lane_of_cell (back_tables_by search c.args.self.now) c.args.haystack.now c.args.span c.args.block.end to
             (get_or c.args.cells.now c.loop-at.i 0) (omega (arith, c.if-cell-ge-ENDS.true))
-            (omega (arith, c.type_inv.cells c.loop-at.i)) lane);
+            (omega (arith, c.type_inv.cells c.loop-at.i)) lane) k (omega (arith, after)) before;
         none = λ k after upto before. absurd (omega (arith, upto, before));
       },
     )
@@ -128,9 +128,10 @@ pub returns-clause-marked : goal.returns-clause-marked
 returns-clause-marked c = λ search is are.
     let p = back_tables_by search c.args.self.now in
     let span = c.args.span in
-    subst (λ (m : Marks). NoneFrom p c.args.haystack.now span.end c.args.from m.first
-    × AreMarked p c.args.haystack.now span m.first c.loop-at.numbers m) (sym c.no_marks.ensures) (
-      c.loop-at.invariant.none search is are,
+    subst (λ (m : Marks). NoneFrom p c.args.haystack.now span.end c.args.from (max c.args.from m.first)
+    × AreMarked p c.args.haystack.now span (max c.args.from m.first) c.loop-at.numbers m) (sym c.no_marks.ensures) (
+      λ k after before. c.loop-at.invariant.none search is are k after
+          (omega (arith, before, c.loop-at.invariant.after)),
       record {
         marks = λ k after before. absurd (omega (arith, after, before));
         none = λ k after upto before. absurd (omega (arith, after, before));
