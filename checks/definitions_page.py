@@ -17,7 +17,7 @@ PATH = "docs/DEFINITIONS.md"
 
 # A definition in a file of specs: the comment above it, its name, and what follows, up to an empty line.
 DEFINITION = re.compile(
-    r"((?:^ *-- .*\n)*)^ *(?:abbrev pub|unfoldable pub|pub (record|data)) ([^\s:(]+)((?:.*\n)(?:.+\n)*)", re.M
+    r"((?:^ *-- .*\n)*)^ *(?:abbrev pub|unfoldable pub(?! use)|pub (record|data)) ([^\s:(]+)((?:.*\n)(?:.+\n)*)", re.M
 )
 FIELD = re.compile(r"^ +pub ([^\s:]+) :", re.M)
 WITH_EXAMPLES = "| Name | Meaning | Example |\n|---|---|---|\n"

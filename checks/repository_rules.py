@@ -7,7 +7,7 @@ import calling_page
 import definitions_page
 import search_rules
 from calling_page import blocks_of, contract_of, page_of, quotes_of
-from rattle_source import code_of, functions_in
+from rattle_source import code_of, functions_in, without_tests
 
 # The only proofs that are walked by hand: a walk elsewhere could forge a count of steps.
 WALKS = {
@@ -34,6 +34,7 @@ NOT_READ = re.compile(
 )
 
 LONGEST_FILE, LONGEST_README = 800, 130
+LIBRARY_MODULE = re.compile(r"crates/(literal_\w+)/src/(?!lib|\w*tests)(\w+)\.rt")
 WIDE = re.compile(r"^.{121,}")
 MISSING = re.compile(re.escape(f"| {definitions_page.MISSING} |"))
 
@@ -122,6 +123,21 @@ def unsafe(texts):
             yield f"{path}: unsafe code"
 
 
+def circles(texts):
+    """In a library no module uses one that uses it, near or far."""
+    used = {}
+    for path, text in texts.items():
+        found = LIBRARY_MODULE.fullmatch(path)
+        if found:
+            code = code_of(without_tests(text))
+            used[found.groups()] = {(found[1], name) for name in re.findall(r"\bcrate::(\w+)", code)}
+    left = {it: names & used.keys() - {it} for it, names in used.items()}
+    while free := {it for it, names in left.items() if not names}:
+        left = {it: names - free for it, names in left.items() if it not in free}
+    for crate, module in left:
+        yield f"crates/{crate}/src/{module}.rt uses modules that use each other"
+
+
 def definitions(texts):
     """docs/DEFINITIONS.md is as checks/definitions_page.py writes it, and names each file of definitions but those that
     models and private functions alone cite. Each definition has a comment, and each row with an example a definition.
@@ -202,7 +218,7 @@ def contracts_in(text, path):
     return [contract_of(re.sub(r"^ *//.*\n", "", head, flags=re.M)) for head in heads]
 
 
-RULES = [handles, walks, citations, sizes, lemmas, unsafe, definitions, examples, quotes]
+RULES = [handles, walks, citations, sizes, lemmas, circles, unsafe, definitions, examples, quotes]
 
 
 def broken_rules(texts):

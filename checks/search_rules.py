@@ -20,7 +20,8 @@ TEST_CRATES = (
 )
 
 # Crates whose code may have a haystack in hand.
-SEARCH_CRATES = ("literal_packed", "literal_fingerprints", "literal_prefilters", "literal_search")
+SEARCH_CRATES = ("literal_packed", "literal_fingerprints", "literal_prefilters", "literal_rows", "literal_leftmost",
+                 "literal_occurrences", "literal_words", "literal_search")
 
 HERE = " (checks/search_rules.py)"
 
@@ -60,16 +61,16 @@ TICKS = {
     "crates/literal_fingerprints/src/wide.rt": {"wide::load_wide": ("tick_scanned", "34f300c94c73")},
     "crates/literal_prefilters/src/prefilter/byte_table.rt": {"ByteTable::find": ("tick_scanned", "9327f693401c")},
     CONFIRMING: {"confirming::confirm": ("tick_tried", ""), "confirming::confirm_by_table": ("tick_tried", "")},
-    "crates/literal_search/src/walk.rt": {
+    "crates/literal_rows/src/walk.rt": {
         "Table::code_at": ("tick_scanned", "25dd60819038"), "walk::class_by": ("tick_scanned", "5af4fe0d0b4f"),
     },
-    "crates/literal_search/src/word_search.rt": {"Words::is_word_at": ("tick_scanned", "0a7b06daaf24")},
+    "crates/literal_words/src/word_search.rt": {"Words::is_word_at": ("tick_scanned", "0a7b06daaf24")},
 }
 READS = ("tick_compared", "tick_scanned")
 
 # What parameters are called that hold what a search reads: a haystack, and its sides. SIDES_OF makes the sides of a
 # `text`, before any search.
-READ_NAMES, SIDES_OF = ("haystack", "sides"), "crates/literal_search/src/word_text.rt"
+READ_NAMES, SIDES_OF = ("haystack", "sides"), "crates/literal_words/src/word_text.rt"
 
 # What parameters are called that hold bytes of patterns, one or all, or what is put in their place, and how bytes are
 # typed.

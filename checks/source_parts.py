@@ -26,7 +26,9 @@ BLANK_LINES = re.compile(r"\n(?:[ \t]*\n)+")
 END_OF_ITEM = re.compile(r"(?:\S.*)?[;}]|#!.*")
 USE = re.compile(r"^[ \t]*(?:pub(?:\([^)]*\))? )?use ([^;]*);\n", re.M)
 GHOST_USE = re.compile(r"^[ \t]*ghost use (Rattle\.[^;{]*?)(?:\.\{([^}]*)\})?(?: as ([^;\s]+))?;\n", re.M)
-USE_OF_LOGIC = re.compile(r"^[ \t]*(?:pub )?use (Rattle\.\S*?)(?:\.\{([^}]*)\})?(?: as (\S+))?[ \t]*\n", re.M)
+USE_OF_LOGIC = re.compile(
+    r"^[ \t]*(?:unfoldable )?(?:pub )?use (Rattle\.\S*?)(?:\.\{([^}]*)\})?(?: as (\S+))?[ \t]*\n", re.M
+)
 MODULE = re.compile(r"(?:^#\[cfg\(test\)\]\n|^(#!.*\n)|(?<!\]\n))^(?:pub(?:\([^)]*\))? )?mod \w+;$", re.M)
 IMPL = re.compile(r"((?:#.*\n)*(?:unsafe )?impl\b([^{]*)\{)\n?((?:.|\n)*)")
 ATTRIBUTES = re.compile(r"(?:[ \t]*#.*\n)*.*\Z")
@@ -183,9 +185,19 @@ class Sources:
         for end in range(len(segments), 0, -1):
             path = "/".join(segments[:end]) + ".antt"
             if (crate, path) in self.files:
-                named = [self.in_file.get((crate, path, it)) for it in (*segments[end:], name) if it]
+                named = [self.named_in(crate, path, it) for it in (*segments[end:], name) if it]
                 return frozenset().union(*named) if named and all(named) else frozenset(self.files[crate, path])
+        folder, *rest = (*segments[1:], "")
+        passed_on = self.imports.get((crate, f"{segments[0]}/Lib.antt", folder)) if folder else None
+        if passed_on:
+            bases = [".".join([base, *filter(None, rest)]) for base, _ in passed_on]
+            return frozenset().union(*(self.at_path(base, name) for base in bases))
         return self.made_for(crate, (*segments, name))
+
+    def named_in(self, crate, path, name):
+        """The parts to which a name leads in a file of the logic: the file has it, or passes it on."""
+        found = self.in_file.get((crate, path, name))
+        return found or set().union(*(self.at_path(*it) for it in self.imports.get((crate, path, name), ())))
 
     def made_for(self, crate, names):
         """The parts of Rattle files for which the toolchain makes what a path with these names leads to: items, and

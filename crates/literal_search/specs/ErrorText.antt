@@ -4,11 +4,11 @@ use Rattle.std.specs.Fmt.{decimal}
 use Rattle.literal_search.specs.declared.BuildError.{BuildError}
 use Rattle.literal_search.specs.declared.BuildError.TheVariants.{EmptyPattern, OutOfMemory, TooManyPatterns}
 use Rattle.literal_search.specs.declared.BuildError.TheVariants.{TooManyStates}
-use Rattle.literal_search.specs.declared.prepared.ArrayTooShort.{ArrayTooShort}
 use Rattle.literal_search.specs.declared.replace.ReplaceError.{ReplaceError}
 use Rattle.literal_search.specs.declared.replace.ReplaceError.TheVariants as replace
 use Rattle.literal_search.specs.declared.replace_stream.ReplaceStreamError.{ReplaceStreamError}
 use Rattle.literal_search.specs.declared.replace_stream.ReplaceStreamError.TheVariants as stream
+pub use Rattle.literal_rows.specs.ErrorText.{array_too_short_text}
 
 -- the message that says why there is no automaton
 abbrev pub build_error_text : BuildError → List ℕ
@@ -16,10 +16,6 @@ build_error_text (EmptyPattern number) = codes "pattern " ++ decimal number ++ c
 build_error_text OutOfMemory = codes "out of memory"
 build_error_text TooManyPatterns = codes "too many patterns"
 build_error_text TooManyStates = codes "the patterns need too many states"
-
--- the message that says that an array is too short for a search
-abbrev pub array_too_short_text : ArrayTooShort → List ℕ
-array_too_short_text error = codes "the array needs " ++ decimal error.needed ++ codes " places"
 
 -- the message that says why matches are not replaced
 abbrev pub replace_error_text : ReplaceError → List ℕ

@@ -7,53 +7,12 @@ use Rattle.std.specs.declared.io.ErrorKind.{ErrorKind}
 use Rattle.std.specs.Iterator.{Count, at_most}
 use Rattle.std.specs.declared.io.Error.{Error}
 use Rattle.literal_base.specs.Counts.{Counts}
-use Rattle.literal_base.specs.Leftmost.{IsLeftmost, IsLeftmostMatch}
+use Rattle.literal_base.specs.Leftmost.{IsLeftmost}
 use Rattle.literal_base.specs.MatchValue.{MatchValue}
 use Rattle.literal_base.specs.Occurs.{Occurs, rest_from}
-use Rattle.literal_base.specs.Query.{Query}
-use Rattle.literal_search.specs.SearchValue.{SearchValue, first_part, longest_of, most_scanned}
+use Rattle.literal_search.specs.SearchValue.{SearchValue, longest_of, most_scanned}
 use Rattle.literal_search.specs.WholeWords.{IsFirstAlone, OccursAlone, WholeWordsValue, most_at_start}
-use Rattle.literal_search.specs.declared.stream.SoFar.{SoFar}
-use Rattle.literal_search.specs.declared.stream.SoFar.TheVariants.{Found, NoneBefore}
-
--- the leftmost match in a text from an offset on, or an offset before which none begins
-abbrev pub AnswersSoFar : Query → Bool → List ℕ → ℕ → SoFar → Type 0
-AnswersSoFar query ignore_case text at (Found found) =
-    IsLeftmostMatch query ignore_case text (rest_from text at) found
-AnswersSoFar query ignore_case text at (NoneBefore offset) =
-    (i p : ℕ) → Occurs query.patterns ignore_case text (rest_from text at) i p → offset ≤ p
-
--- when it is known, given the length of the longest pattern. A match is not empty, lies in the known bytes, and the
--- longest pattern would fit between its start and their end. An offset is the first, from `at` on, at which the longest
--- pattern would end after the known bytes
-abbrev pub IsKnownBy : ℕ → ℕ → ℕ → SoFar → Type 0
-IsKnownBy longest len at (Found found) = (found.start < found.end) × (found.end ≤ len) × (found.start + longest ≤ len)
-IsKnownBy longest len at (NoneBefore offset) = offset ≡ max at (len - (longest - 1))
-
--- `IsKnownBy` for the longest of some patterns
-abbrev pub IsKnownSoFar : List (List ℕ) → ℕ → ℕ → SoFar → Type 0
-IsKnownSoFar patterns = IsKnownBy (longest_of patterns)
-
--- what is known by any array: a match begins at the offset `at` or after it and names one of the patterns, or an offset
--- is not before `at`
-abbrev pub MayBeKnown : ℕ → ℕ → SoFar → Type 0
-MayBeKnown patterns at (Found found) = (at ≤ found.start) × (found.pattern < patterns)
-MayBeKnown patterns at (NoneBefore offset) = at ≤ offset
-
--- the end of the match, or the offset
-abbrev pub told_to : SoFar → ℕ
-told_to (Found found) = found.end
-told_to (NoneBefore offset) = offset
-
--- how many bytes it scans, of `len` bytes, from an offset on: at least those up to the end of the match or the answered
--- offset; at most three times those from there on, and with a match at most eleven times those before it plus 36 times
--- the first part
-pub record ScansSoFar (longest len at : ℕ) (answer : SoFar) (old new : Counts) : Type 0 where
-  pub others : new ≡ record old { scanned = new.scanned }
-  pub least : old.scanned + told_to answer ≤ new.scanned + at
-  pub most : new.scanned ≤ old.scanned + 3 * (len - at)
-  pub near : (found : MatchValue) → answer ≡ Found found
-      → new.scanned + 11 * at ≤ old.scanned + 11 * found.start + 36 * first_part longest
+pub use Rattle.literal_leftmost.specs.SoFar.{AnswersSoFar, IsKnownBy, IsKnownSoFar, MayBeKnown, ScansSoFar, told_to}
 
 -- a `StreamMatches` as contracts see it: the search, the bytes ahead that were read, the bytes still to be read if they
 -- are known, the offset at which the search continues, the kind of the error if reading failed, whether a read has

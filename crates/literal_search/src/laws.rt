@@ -25,7 +25,7 @@ ghost use Rattle.literal_search.specs.Prepared.{IsPrepared, IsWhole, RefusesToPr
 ghost use Rattle.literal_search.specs.Prepared.{prepared_len};
 ghost use Rattle.literal_search.specs.PreparedOverlapping.{IsPreparedOverlapping, IsWholeOverlapping, overlapping_len};
 ghost use Rattle.literal_search.specs.Replaced.{replaced};
-ghost use Rattle.literal_search.specs.declared.prepared.ArrayTooShort.{ArrayTooShort};
+ghost use Rattle.literal_rows.specs.declared.array.ArrayTooShort.{ArrayTooShort};
 ghost use Rattle.literal_search.specs.Stream.{GivesStreamed, GivesStreamedCounted, GivesWordStreamed, StreamValue};
 ghost use Rattle.literal_search.specs.Stream.{WordStreamValue, stream_of, word_stream_of};
 ghost use Rattle.literal_search.specs.WholeWords.{AreWholeWords, OccursAlone, WholeWordsValue};

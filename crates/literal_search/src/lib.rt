@@ -7,76 +7,57 @@ ghost use Rattle.literal_base.specs.Given.{CanBeTaken};
 ghost use Rattle.literal_search.specs.SearchValue.{GivesAll, RefusesSearch, longest_of};
 ghost use Rattle.literal_search.specs.Inside.Search.{IsShortestOf};
 
-mod automaton;
-mod backward;
 mod builder;
-mod classes;
-mod count;
-mod cursor;
-mod ends;
-mod grow;
 pub mod laws;
-mod leftmost;
-mod near;
-mod numbers;
 mod overlapping;
 mod overlapping_stream;
 mod patterns;
-mod position;
-mod prefixes;
-mod prepared;
-mod prepared_overlapping;
-mod prepared_search;
-mod prepared_so_far;
-mod prepared_states;
-mod prepared_words;
 mod reading;
 mod replace;
 mod replace_stream;
-mod scan;
 mod search;
-mod shadowed;
-mod short;
-mod short_span;
 mod sought;
 mod stream;
-mod suffixes;
-mod trail;
-mod trail_in_four;
-mod walk;
+mod texts;
 mod whole_words;
 mod window;
-mod word_search;
+mod word_matches;
 mod word_stream;
-mod word_text;
 
-pub use automaton::{Automaton, State};
 pub use builder::SearchBuilder;
-use grow::GrowError;
 pub use literal_base::alphabet::ByteSet;
 pub use literal_base::count::Tally;
 pub use literal_base::packed::MatchKind;
 pub use literal_base::{Match, Span};
 pub use literal_ids::PatternID;
+pub use literal_leftmost::prepared_search::{Prepared, PreparedMatches};
+pub use literal_leftmost::short_span::{PreparedShortMatches, SHORT_SPAN};
+pub use literal_leftmost::so_far::SoFar;
+pub use literal_occurrences::automaton::{Automaton, State};
+pub use literal_occurrences::prepared_overlapping::{
+    PreparedOverlapping, PreparedOverlappingMatches,
+};
+pub use literal_occurrences::prepared_states::Walked;
+pub use literal_rows::array::ArrayTooShort;
+pub use literal_rows::damaged::Damaged;
+use literal_rows::grow::GrowError;
+pub use literal_words::prepared_words::{
+    PreparedWordMatches, PreparedWordMatchesBySides, PreparedWords,
+};
+pub use literal_words::word_text::WordText;
 pub use overlapping::{Overlapping, OverlappingMatches};
 pub use overlapping_stream::OverlappingStreamMatches;
 pub use patterns::Patterns;
-pub use prepared::{ArrayTooShort, Damaged};
-pub use prepared_overlapping::{PreparedOverlapping, PreparedOverlappingMatches};
-pub use prepared_search::{Prepared, PreparedMatches};
-pub use prepared_states::Walked;
-pub use prepared_words::{PreparedWordMatches, PreparedWordMatchesBySides, PreparedWords};
 pub use replace::ReplaceError;
 pub use replace_stream::ReplaceStreamError;
 pub use search::{Matches, Search, Starts};
-pub use short_span::{PreparedShortMatches, SHORT_SPAN};
 use std::alloc::{AllocError, Global};
 use std::error::Error;
 use std::fmt;
-pub use stream::{SoFar, StreamMatches};
+pub use stream::StreamMatches;
 pub use whole_words::{WholeWordMatches, WholeWords};
+pub use word_matches::WordMatchesBySides;
 pub use word_stream::WholeWordStreamMatches;
-pub use word_text::{WordMatchesBySides, WordText};
 
 /// Why no search is built for some patterns.
 #[derive(Clone, Copy, Debug, PartialEq, Eq, Drop)]
@@ -160,17 +141,6 @@ fn copies<'a, I: IntoIterator<Item = &'a [u8]>>(
     Ok(all)
 }
 
-/// The length of the longest pattern, or 0 if there is none.
-fn longest_len(patterns: &[Vec<u8>]) -> usize
-    ensures { result ≡ longest_of (map (λ pattern. pattern.items) patterns.now) }
-{
-    let mut longest: usize = 0;
-    for pattern in patterns {
-        longest = longest.max(pattern.len());
-    }
-    longest
-}
-
 /// The length of the shortest pattern, or a large number if there is none.
 fn shortest_len(patterns: &[Vec<u8>]) -> usize
     ensures { IsShortestOf result (map (λ pattern. pattern.items) patterns.now) }
@@ -180,18 +150,6 @@ fn shortest_len(patterns: &[Vec<u8>]) -> usize
         shortest = shortest.min(pattern.len());
     }
     shortest
-}
-
-/// The sum of the lengths of all patterns.
-fn total_bytes(patterns: &[Vec<u8>]) -> u128
-    ensures total { result ≡ sum_by length (map (λ pattern. pattern.items) patterns.now) }
-    ensures small { result < 2 ^ 127 }
-{
-    let mut total: u128 = 0;
-    for pattern in patterns {
-        total += pattern.len() as u128;
-    }
-    total
 }
 
 /// Adds a copy of a pattern. If memory is refused, the list is unchanged.

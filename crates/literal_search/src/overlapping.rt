@@ -14,22 +14,24 @@ ghost use Rattle.literal_search.specs.OverlappingMatchesValue.{GivesOverlapping,
 ghost use Rattle.literal_search.specs.Prepared.{AreShort};
 ghost use Rattle.literal_search.specs.PreparedOverlapping.{RefusesOverlapping, TakesListedPlaces, WritesOverlapping};
 ghost use Rattle.literal_search.specs.PreparedOverlapping.{overlapping_value};
-ghost use Rattle.literal_search.specs.Inside.LentTables.{AreFor, AreLent};
-ghost use Rattle.literal_search.specs.Inside.Overlapping.{AreListed, AreParts, overlapping_of};
+ghost use Rattle.literal_occurrences.specs.Inside.LentTables.{AreFor, AreLent};
+ghost use Rattle.literal_occurrences.specs.Inside.LentTables.{AreListed};
+ghost use Rattle.literal_search.specs.Inside.Overlapping.{AreParts, overlapping_of};
 
-use crate::automaton::{Automaton, automaton_of};
-use crate::classes::classes_for;
-use crate::grow::{GrowError, grow};
-use crate::numbers::{Numbers, prints_for};
 use crate::patterns::Patterns;
-use crate::position::Position;
-use crate::prepared::ArrayTooShort;
-use crate::prepared_overlapping::{LentTables, lent_in};
-use crate::suffixes::Recognised;
-use crate::{BuildError, copies, shortest_len, total_bytes};
+use crate::{BuildError, copies, shortest_len};
 use literal_base::count::Tally;
 use literal_base::{Match, Span};
 use literal_ids::PatternID;
+use literal_occurrences::automaton::Automaton;
+use literal_occurrences::position::Position;
+use literal_occurrences::prepared_overlapping::{LentTables, lent_in};
+use literal_rows::array::ArrayTooShort;
+use literal_rows::classes::classes_for;
+use literal_rows::grow::{GrowError, grow};
+use literal_rows::numbers::{Numbers, prints_for};
+use literal_rows::suffixes::Recognised;
+use literal_rows::total_bytes;
 use std::alloc::{AllocError, Global};
 use std::fmt;
 use std::marker::Model;
@@ -217,7 +219,7 @@ impl Overlapping {
     }
 
     /// Returns how many entries [`Overlapping::prepare`] writes. An array of this length or longer is long enough.
-    #[tactic(auto, using(crate::proofs::lemmas::LentTables::takes_listed))]
+    #[tactic(auto, using(literal_occurrences::proofs::lemmas::LentTables::takes_listed))]
     pub fn prepared_len(&self) -> usize
         ensures { TakesListedPlaces self.now result }
     {
@@ -237,7 +239,11 @@ impl Overlapping {
     pub fn automaton(&self) -> Automaton<'_>
         ensures { overlapping_value result ≡ self.now }
     {
-        automaton_of(&self.parts)
+        Automaton::of(
+            self.parts.ignore_case,
+            &self.parts.patterns,
+            self.parts.lent(),
+        )
     }
 
     /// Returns the number of patterns. None of them is empty.
@@ -349,9 +355,9 @@ pub struct OverlappingMatches<'s, 'h> {
 
 impl<'s, 'h> Model for OverlappingMatches<'s, 'h> {
     ghost use Rattle.literal_search.specs.OverlappingMatchesValue.{OverlappingMatchesValue};
-    ghost use Rattle.literal_search.specs.Inside.LentTables.{AreFor, AreLent, LiesAt, tables_by};
+    ghost use Rattle.literal_occurrences.specs.Inside.LentTables.{AreFor, AreLent, LiesAt, tables_by};
     ghost use Rattle.literal_search.specs.Inside.Overlapping.{overlapping_of};
-    ghost use Rattle.literal_search.specs.Inside.Position.{IsPosition};
+    ghost use Rattle.literal_occurrences.specs.Inside.Position.{IsPosition};
     ghost use Rattle.literal_base.specs.Occurs.{IsValidSpan};
 
     ghost Value = { OverlappingMatchesValue };

@@ -11,11 +11,11 @@ ghost use Rattle.literal_search.specs.Inside.OverlappingStream.{HasCome, IsSound
 ghost use Rattle.literal_search.specs.Inside.Stream.{IsOpen, IsSoundStream, held};
 
 use crate::Overlapping;
-use crate::automaton::{Automaton, State};
 use crate::reading::Reading;
 use crate::window::Window;
 use literal_base::count::Tally;
 use literal_base::{Match, Span};
+use literal_occurrences::automaton::{Automaton, State};
 use std::alloc::{AllocError, Global};
 use std::io::{self, Read};
 use std::marker::Model;

@@ -16,25 +16,26 @@ ghost use Rattle.literal_search.specs.SearchValue.{longest_of, reversed, search_
 ghost use Rattle.literal_search.specs.MatchesValue.{GivesMatch, GivesStart, GivesThen, most_to_come};
 ghost use Rattle.literal_search.specs.Memory.{TakesBytes};
 ghost use Rattle.literal_search.specs.Prepared.{AreShort, RefusesToPrepare, TakesPlaces, WritesPrepared, longest_in};
-ghost use Rattle.literal_search.specs.Inside.Backward.{AreBackFor, IsSafe, back_tables_by, offset_by};
+ghost use Rattle.literal_leftmost.specs.Inside.Backward.{AreBackFor, IsSafe, back_tables_by, offset_by};
 ghost use Rattle.literal_search.specs.Inside.Search.{AreKept, AreParts, search_value, tables_of};
 
-use crate::backward::{Backward, Continuation};
-use crate::classes::classes_for;
-use crate::cursor::Cursor;
-use crate::grow::GrowError;
-use crate::numbers::{Numbers, prints_for};
 use crate::patterns::Patterns;
-use crate::prepared::ArrayTooShort;
-use crate::prepared_search::backward_in;
-use crate::shadowed::{backward_rows, links_for};
-use crate::short_span::{SHORT_SPAN, ShortCursor};
-use crate::word_search::earlier;
-use crate::{BuildError, copies, push_copy, shortest_len, total_bytes};
+use crate::{BuildError, copies, push_copy, shortest_len};
 use literal_base::count::Tally;
 use literal_base::packed::MatchKind;
 use literal_base::{Match, Span};
 use literal_ids::PatternID;
+use literal_leftmost::backward::{Backward, Continuation};
+use literal_leftmost::cursor::Cursor;
+use literal_leftmost::prepared_search::backward_in;
+use literal_leftmost::short_span::{SHORT_SPAN, ShortCursor};
+use literal_rows::array::ArrayTooShort;
+use literal_rows::classes::classes_for;
+use literal_rows::grow::GrowError;
+use literal_rows::numbers::{Numbers, prints_for};
+use literal_rows::shadowed::{backward_rows, links_for};
+use literal_rows::total_bytes;
+use literal_words::word_search::earlier;
 use std::alloc::{AllocError, Global};
 use std::fmt;
 use std::marker::Model;
@@ -299,7 +300,7 @@ impl Search {
     }
 
     /// Returns the list of all matches that [`Search::find_iter`] gives. Allocates only if there is a match.
-    #[tactic(auto, using(crate::proofs::lemmas::GreedyIn::greedy_whole))]
+    #[tactic(auto, using(literal_leftmost::proofs::lemmas::GreedyIn::greedy_whole))]
     pub fn find_all(&self, haystack: &[u8]) -> Result<Vec<Match>, AllocError>
         ensures greedy { IfOk result
             (λ all. IsGreedy self.now.query self.now.ignore_case haystack.now 0 all.items) }
@@ -585,7 +586,7 @@ pub struct Matches<'s, 'h> {
 
 impl<'s, 'h> Model for Matches<'s, 'h> {
     ghost use Rattle.literal_search.specs.MatchesValue.{MatchesValue};
-    ghost use Rattle.literal_search.specs.Inside.Cursor.{look_ups_of};
+    ghost use Rattle.literal_leftmost.specs.Inside.Cursor.{look_ups_of};
     ghost use Rattle.literal_search.specs.Inside.Search.{GoesOn, search_value};
 
     ghost Value = { MatchesValue };
@@ -651,9 +652,9 @@ struct ShortMatches<'s, 'h> {
 impl<'s, 'h> Model for ShortMatches<'s, 'h> {
     ghost use Rattle.literal_search.specs.MatchesValue.{MatchesValue};
     ghost use Rattle.std.specs.Prelude.{◌-◌, ◌≤◌};
-    ghost use Rattle.literal_search.specs.Inside.Cursor.{cursor_by, look_ups_of};
+    ghost use Rattle.literal_leftmost.specs.Inside.Cursor.{cursor_by, look_ups_of};
     ghost use Rattle.literal_search.specs.Inside.Search.{GoesOn, search_value};
-    ghost use Rattle.literal_search.specs.declared.short_span.TheConstants.{SHORT_SPAN};
+    ghost use Rattle.literal_leftmost.specs.declared.short_span.TheConstants.{SHORT_SPAN};
 
     ghost Value = { MatchesValue };
 

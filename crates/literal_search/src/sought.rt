@@ -7,12 +7,12 @@ ghost use Rattle.literal_search.specs.Stream.{ScansMore};
 ghost use Rattle.literal_search.specs.Inside.Stream.{AreTablesOf, IsFirst, IsThrough, looked_in_block, margin_of};
 ghost use Rattle.literal_search.specs.Inside.Stream.{most_in_block, reach_of, search_of};
 
-use crate::backward::Continuation;
-use crate::cursor::Cursor;
-use crate::word_search::Words;
 use crate::{Match, Search, Span, WholeWords};
 use literal_base::alphabet::ByteSet;
 use literal_base::count::Tally;
+use literal_leftmost::backward::Continuation;
+use literal_leftmost::cursor::Cursor;
+use literal_words::word_search::Words;
 
 /// What a stream is searched for.
 #[derive(Clone, Copy)]

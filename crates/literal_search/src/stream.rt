@@ -13,28 +13,21 @@ ghost use Rattle.literal_search.specs.Stream.{bytes_read, stream_of, told_to};
 ghost use Rattle.literal_search.specs.Stream.{ScansMore};
 ghost use Rattle.literal_search.specs.Inside.Stream.{Answers, AnswersAhead, AreHeldFrom, AreTablesOf, Begins};
 ghost use Rattle.literal_search.specs.Inside.Stream.{GoesOnAfter, HasReadOn, IsFirst, IsFirstKnown, IsOpen};
-ghost use Rattle.literal_search.specs.Inside.Stream.{IsSearchIn, IsSoundStream, IsThrough, TellsOf, held};
+ghost use Rattle.literal_search.specs.Inside.Stream.{IsSearchIn, IsSoundStream, IsThrough, held};
+ghost use Rattle.literal_leftmost.specs.SoFar.{TellsOf};
 ghost use Rattle.literal_search.specs.Inside.Stream.{done_to, looked_in_block, looked_so_far, margin_of};
 ghost use Rattle.literal_search.specs.Inside.Stream.{most_in_block, reach_of, search_of, stream_value};
 
-use crate::Search;
 use crate::reading::Reading;
 use crate::sought::{BlockSearch, Sought};
 use crate::window::Window;
+use crate::{Search, SoFar};
 use literal_base::count::Tally;
 use literal_base::{Match, Span};
+use literal_leftmost::so_far::so_far;
 use std::alloc::{AllocError, Global};
 use std::io::{self, Read};
 use std::marker::Model;
-
-/// What is known of the leftmost match in a text from its beginning alone.
-#[derive(Clone, Copy, Debug, PartialEq, Eq)]
-pub enum SoFar {
-    /// This is the match, whatever follows.
-    Found(Match),
-    /// No match begins before this offset, whatever follows.
-    NoneBefore(usize),
-}
 
 impl Search {
     /// Returns what is known of the leftmost match from an offset on, where the haystack is the beginning of a text and
@@ -95,26 +88,6 @@ impl Search {
             stream,
         })
     }
-}
-
-/// What is known, if more may follow, from the leftmost match from an offset on and the longest pattern's length.
-pub fn so_far(haystack: &[u8], at: usize, longest: usize, leftmost: Option<Match>) -> SoFar
-    requires within { at ≤ length haystack.now }
-    requires inside { IfSome leftmost (LiesIn (between at (length haystack.now))) }
-    ensures whatever_follows { (query : Query) (ignore_case : Bool) (more : List ℕ)
-        → longest ≡ longest_of query.patterns
-        → IsLeftmost query ignore_case haystack.now (between at (length haystack.now)) leftmost
-        → AnswersSoFar query ignore_case (haystack.now ++ more) at result }
-    ensures known { IsKnownBy longest (length haystack.now) at result }
-    ensures told { TellsOf leftmost result }
-{
-    let end = haystack.len();
-    if let Some(found) = leftmost {
-        if end - found.start() >= longest {
-            return SoFar::Found(found);
-        }
-    }
-    SoFar::NoneBefore(at.max(end.saturating_sub(longest.saturating_sub(1))))
 }
 
 /// The iterator of [`Search::find_stream`]. Contracts see the search, the bytes ahead that were read, the bytes still

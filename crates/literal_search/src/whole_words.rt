@@ -1,6 +1,6 @@
 //! The search for whole words.
 ghost use Rattle.std.specs.Prelude.{◌≡◌, ◌+◌, ◌-◌, ◌*◌, ◌<◌, ◌≤◌, ◌↔◌, ℕ, IfErr, IfOk, IfSome, IsTrue, MatchOption};
-ghost use Rattle.std.specs.Prelude.{OnErr, false, length};
+ghost use Rattle.std.specs.Prelude.{OnErr, length};
 ghost use Rattle.literal_base.specs.Bytes.{contains};
 ghost use Rattle.literal_base.specs.Given.{CanBeTaken};
 ghost use Rattle.literal_base.specs.Occurs.{IsValidSpan, pattern_at, whole_of};
@@ -10,17 +10,17 @@ ghost use Rattle.literal_search.specs.WholeWords.{AreWholeWords, GivesWholeWord,
 ghost use Rattle.literal_search.specs.LookUps.{no_look_ups};
 ghost use Rattle.literal_search.specs.WholeWords.{NothingAlone, OccursAlone, ScansFirstWord, ScansWords};
 ghost use Rattle.literal_search.specs.WholeWords.{is_ascii_word_byte, most_words_to_come};
-ghost use Rattle.literal_search.specs.Inside.WholeWords.{AreTablesFor};
+ghost use Rattle.literal_words.specs.Inside.WholeWords.{AreTablesFor};
 
 use crate::BuildError;
 use crate::search::Search;
-use crate::word_search::Words;
-use crate::word_text::WordMatchesBySides;
+use crate::word_matches::{Parts, WordMatchesBySides};
 use literal_base::alphabet::ByteSet;
 use literal_base::count::Tally;
 use literal_base::packed::MatchKind;
 use literal_base::{Match, Span};
 use literal_ids::PatternID;
+use literal_words::word_search::Words;
 use std::alloc::{AllocError, Global};
 use std::marker::Model;
 
@@ -44,18 +44,10 @@ pub struct WholeWords {
     pub(crate) parts: Parts,
 }
 
-/// The data of a search for whole words. Its search prefers the longest match for either match kind, since with the
-/// other rule a pattern never matches if an earlier one is its prefix.
-#[derive(Drop)]
-pub struct Parts {
-    pub kind: MatchKind,
-    pub search: Search,
-    pub word_bytes: ByteSet,
-}
-
 impl Model for WholeWords {
     ghost use Rattle.literal_search.specs.WholeWords.{WholeWordsValue};
-    ghost use Rattle.literal_search.specs.Inside.WholeWords.{AreWordParts, owned_parts, whole_words_value};
+    ghost use Rattle.literal_words.specs.Inside.WholeWords.{AreWordParts, whole_words_value};
+    ghost use Rattle.literal_search.specs.Inside.OwnedWords.{owned_parts};
 
     ghost Value = { WholeWordsValue };
 

@@ -80,7 +80,7 @@ impl Window {
     }
 
     /// Drops the first held bytes. The block stays.
-    #[tactic(auto, using(crate::proofs::lemmas::Streams::part_behind, crate::proofs::lemmas::Prepared::length_part))]
+    #[tactic(auto, using(crate::proofs::lemmas::Streams::part_behind, crate::proofs::lemmas::Streams::length_part))]
     pub(crate) fn pass(&mut self, count: usize)
         requires window { IsWindow self.old }
         requires within { count ≤ length (held self.old) }

@@ -6,7 +6,7 @@ use Rattle.literal_search.specs.Prepared.{WritesPrepared}
 use Rattle.literal_search.specs.RefusedList.{RefusesPatterns}
 use Rattle.literal_search.specs.SearchValue.{NeedTooManyReversed, NeedTooManyStates, SearchValue, search_by}
 use Rattle.literal_search.specs.declared.BuildError.{BuildError}
-use Rattle.literal_search.specs.declared.prepared.ArrayTooShort.{ArrayTooShort}
+use Rattle.literal_rows.specs.declared.array.ArrayTooShort.{ArrayTooShort}
 use Rattle.search_promise.specs.declared.AnySearch.{AnySearch}
 
 -- the search that is asked for

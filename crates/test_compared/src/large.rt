@@ -137,7 +137,7 @@ fn find_counted(search: &Search, haystack: &[u8; 10_000], tally: &mut Tally) -> 
 
 /// All matches in these bytes. For any number of matches, it looks up at most three times as many bytes, if no pattern
 /// has 262,000 bytes.
-#[tactic(auto, using(literal_search::proofs::lemmas::Passes::just_thrice))]
+#[tactic(auto, using(literal_leftmost::proofs::lemmas::Passes::just_thrice))]
 fn find_all_counted(
     search: &Search,
     haystack: &[u8; 10_000],

@@ -3,7 +3,7 @@ use Rattle.std.proofs.Common.{◌≡◌, ◌≤◌, ◌∙◌, ℕ, List, [], �
 use Rattle.std.proofs.lemmas.List.{length-map}
 use Rattle.std.specs.List.{fold}
 use Rattle.std.specs.Prelude.{min}
-use Rattle.literal_search.proofs.lemmas.Prepared.{length_part}
+use Rattle.literal_rows.proofs.lemmas.Arrays.{length_part}
 use Rattle.literal_search.specs.Prepared.{classes_end, lengths_in, rows_at}
 use Rattle.literal_search.specs.SearchValue.{shortest_of}
 use Rattle.literal_c.specs.Inside.Info.{shortest_in}

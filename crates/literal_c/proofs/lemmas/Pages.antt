@@ -17,7 +17,7 @@ use Rattle.literal_base.specs.MatchValue.{MatchValue}
 use Rattle.literal_base.specs.Occurs.{NothingOccurs, Occurs, between, rest_from}
 use Rattle.literal_base.specs.Query.{Query}
 use Rattle.literal_search.specs.OverlappingMatchesValue.{GivesOverlapping, OverlappingMatchesValue}
-use Rattle.literal_search.specs.declared.prepared.Damaged.{Damaged}
+use Rattle.literal_rows.specs.declared.damaged.Damaged.{Damaged}
 use Rattle.literal_c.specs.Answers.{AreNext, BeginsNone, IsCount, IsPage, MayBeFound, end_of_last, match_of}
 use Rattle.literal_c.specs.declared.LiteralMatch.{LiteralMatch}
 use Rattle.literal_c.specs.declared.LiteralPage.{LiteralPage}

@@ -7,7 +7,7 @@ use Rattle.std.specs.Iterator.{Yields}
 use Rattle.std.specs.Prelude.{max}
 use Rattle.literal_base.specs.MatchValue.{MatchValue}
 use Rattle.literal_base.specs.Occurs.{between}
-use Rattle.literal_search.proofs.lemmas.Longest.{longest_is}
+use Rattle.literal_rows.proofs.lemmas.Longest.{longest_is}
 use Rattle.literal_search.specs.Overlapping.{OverlappingValue}
 use Rattle.literal_search.specs.OverlappingMatchesValue.{GivesOverlapping, IsNextToCome, IsToCome}
 use Rattle.literal_search.specs.OverlappingMatchesValue.{OverlappingMatchesValue, gone_on}

@@ -5,11 +5,11 @@ use Rattle.literal_base.specs.Leftmost.{IsLeftmost, IsLeftmostMatch}
 use Rattle.literal_base.specs.MatchValue.{MatchValue}
 use Rattle.literal_base.specs.Occurs.{Occurs, between}
 use Rattle.literal_base.specs.Query.{Query}
-use Rattle.literal_search.proofs.lemmas.Longest.{longest_is}
-use Rattle.literal_search.proofs.lemmas.Streams.{leftmost_longer, occurs_prefix}
+use Rattle.literal_rows.proofs.lemmas.Longest.{longest_is}
+use Rattle.literal_leftmost.proofs.lemmas.SoFar.{leftmost_longer, occurs_prefix}
 use Rattle.literal_search.specs.SearchValue.{longest_of}
-use Rattle.literal_search.specs.declared.stream.SoFar.{SoFar}
-use Rattle.literal_search.specs.declared.stream.SoFar.TheVariants.{Found, NoneBefore}
+use Rattle.literal_leftmost.specs.declared.so_far.SoFar.{SoFar}
+use Rattle.literal_leftmost.specs.declared.so_far.SoFar.TheVariants.{Found, NoneBefore}
 use Rattle.literal_c.specs.Answers.{BeginsNone}
 use Rattle.literal_c.specs.Inside.SoFar.{IsUnknown}
 use Rattle.literal_c.specs.SoFar.{IsToldBy, MayFollow, deciding_len}

@@ -12,7 +12,7 @@ use Rattle.std.proofs.lemmas.Slice.{drop-put_mid}
 use Rattle.std.specs.Bool.{MatchBool}
 use Rattle.std.specs.Io.KnownBytes.{Consumes, IsAtEnd, Keeps}
 use Rattle.literal_fingerprints.proofs.lemmas.Skipped.{part_behind}
-use Rattle.literal_search.proofs.lemmas.Prepared.{length_part}
+use Rattle.literal_rows.proofs.lemmas.Arrays.{length_part}
 use Rattle.literal_folding.specs.Folding.{NoneGoesOver, folded}
 use Rattle.literal_folding.specs.Inside.Blocks.{bytes_behind_of, held, ready, rest_of}
 use Rattle.literal_folding.specs.declared.block.Block.{Block}

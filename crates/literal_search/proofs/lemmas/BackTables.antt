@@ -5,45 +5,28 @@ use Rattle.std.proofs.Common.{inl, inr, map}
 use Rattle.std.proofs.lemmas.Bool.{cases_lt}
 use Rattle.std.proofs.lemmas.List.{get_or_default, length-map}
 use Rattle.literal_base.specs.Occurs.{pattern_at}
-use Rattle.literal_search.specs.Inside.Classes.{symbols_in}
+use Rattle.literal_rows.specs.Inside.Classes.{symbols_in}
 use Rattle.literal_search.specs.Inside.Search.{AreKept}
-use Rattle.literal_search.specs.Inside.Prepared.{kind_number, numbers_for}
+use Rattle.literal_rows.specs.Inside.Arrays.{kind_number, numbers_for}
 use Rattle.literal_search.specs.SearchValue.{reversed, width_for, SearchValue}
 use Rattle.literal_search.specs.Prepared.{AreShort, classes_end, rows_at, rows_end, rows_in, AreBackTables, BackTables}
 use Rattle.literal_base.specs.declared.packed.MatchKind.{MatchKind}
 use Rattle.literal_base.specs.declared.packed.MatchKind.TheVariants.{LeftmostFirst, LeftmostLongest}
-use Rattle.literal_search.specs.Links.{AreLinks}
+use Rattle.literal_rows.specs.Links.{AreLinks}
 use Rattle.literal_search.specs.Prepared.{back_tables_in, kind_in, links_end, links_in}
 use Rattle.literal_search.specs.Prepared.{IsPrepared, ArePrints, TakesPlaces, prepared_len, prints_in, texts_back}
-use Rattle.literal_search.specs.Table.{stride_of}
-use Rattle.literal_search.specs.States.{HasTooManyStates, IsRowsLength}
-use Rattle.literal_search.specs.declared.prepared.TheConstants.{SCAN_LEN, PREPARED_VERSION}
-use Rattle.literal_search.proofs.lemmas.Numbers.{check_written, classes_written, ends_written, lengths_written}
-use Rattle.literal_search.proofs.lemmas.Numbers.{starts_written}
-use Rattle.literal_search.proofs.lemmas.Numbers.{numbers_long, rows_written}
-use Rattle.literal_search.proofs.lemmas.Reversed.{back_count, back_long}
-use Rattle.literal_search.proofs.lemmas.Found.{symbols_length}
-use Rattle.literal_search.proofs.lemmas.Prepared.{length_part}
-use Rattle.literal_search.proofs.lemmas.States.{too_many_prefixes}
-use Rattle.literal_search.proofs.lemmas.Walk.{at_start, row_at}
-
--- tables whose parts are equal
-pub same_tables : (search : SearchValue) (classes classes' : List ℕ) (width width' : ℕ)
-    (rows rows' : List ℕ) (longest longest' : ℕ) → classes ≡ classes' → width ≡ width' → rows ≡ rows'
-    → longest ≡ longest' → (let t : BackTables = record {
-      search = search;
-      classes = classes;
-      width = width;
-      rows = rows;
-      longest = longest;
-    } in t) ≡ record {
-      search = search;
-      classes = classes';
-      width = width';
-      rows = rows';
-      longest = longest';
-    }
-same_tables search classes classes' width width' rows rows' longest longest' a b c d = cc
+use Rattle.literal_rows.specs.Table.{stride_of}
+use Rattle.literal_rows.specs.States.{HasTooManyStates, IsRowsLength}
+use Rattle.literal_rows.specs.declared.array.TheConstants.{SCAN_LEN, PREPARED_VERSION}
+use Rattle.literal_leftmost.proofs.lemmas.BackTables.{same_tables}
+use Rattle.literal_rows.proofs.lemmas.Numbers.{check_written, classes_written, ends_written, lengths_written}
+use Rattle.literal_rows.proofs.lemmas.Numbers.{starts_written}
+use Rattle.literal_rows.proofs.lemmas.Numbers.{numbers_long, rows_written}
+use Rattle.literal_rows.proofs.lemmas.Reversed.{back_count, back_long}
+use Rattle.literal_rows.proofs.lemmas.Found.{symbols_length}
+use Rattle.literal_rows.proofs.lemmas.Arrays.{length_part}
+use Rattle.literal_rows.proofs.lemmas.States.{too_many_prefixes}
+use Rattle.literal_rows.proofs.lemmas.Walk.{at_start, row_at}
 
 -- the links between the classes and the scan
 pub links_between : (version kind : ℕ) (classes : List ℕ) (width : ℕ) (patterns : List (List ℕ))

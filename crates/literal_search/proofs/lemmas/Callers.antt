@@ -41,19 +41,19 @@ use Rattle.literal_search.specs.Overlapping.{BuildsOverlapping, OverlappingValue
 use Rattle.literal_search.specs.Overlapping.{IsOverlapping}
 use Rattle.literal_search.specs.PreparedOverlapping.{Tables, overlapping_value}
 use Rattle.literal_search.specs.Replaced.{IsReplaced, IsWritten, WritesMatch, WritingValue, replaced, replaced_by}
-use Rattle.literal_search.proofs.lemmas.Automaton.{all_in_haystack, in_haystack, in_part}
-use Rattle.literal_search.proofs.lemmas.Rows.{none_few, one_class}
-use Rattle.literal_search.proofs.lemmas.Walk.{slice_push}
+use Rattle.literal_occurrences.proofs.lemmas.Automaton.{all_in_haystack, in_haystack, in_part}
+use Rattle.literal_rows.proofs.lemmas.Rows.{none_few, one_class}
+use Rattle.literal_rows.proofs.lemmas.Walk.{slice_push}
 use Rattle.std.proofs.lemmas.Bool.{and_from, cases_Bool, cases_lt, le-leb, lt-ltb, or_left, or_right}
 use Rattle.std.proofs.lemmas.List.Elements.{All-filter, filter_passes}
 use Rattle.std.proofs.lemmas.List.Kept.{AllPairs-filter}
 use Rattle.literal_base.specs.declared.search.Span.{Span}
-use Rattle.literal_search.proofs.lemmas.Longest.{longest_is}
+use Rattle.literal_rows.proofs.lemmas.Longest.{longest_is}
 use Rattle.literal_search.specs.WholeWords.{AreWholeWords, GivesWholeWord, IsFirstAlone, OccursAlone}
 use Rattle.literal_search.specs.WholeWords.{WholeWordMatchesValue, WholeWordsValue}
-pub use Rattle.literal_search.proofs.lemmas.Iterations.{scanned_on}
-pub use Rattle.literal_search.proofs.lemmas.Prepared.{length_part}
-pub use Rattle.literal_search.proofs.lemmas.Pushed.{counts_pushed, match_at_end, pushed}
+pub use Rattle.literal_leftmost.proofs.lemmas.Iterations.{scanned_on}
+pub use Rattle.literal_rows.proofs.lemmas.Arrays.{length_part}
+pub use Rattle.literal_occurrences.proofs.lemmas.Pushed.{counts_pushed, match_at_end, pushed}
 
 -- whichever iterator the given value becomes, that gives references to these byte strings and ends
 pub record GivesBytes {U T : Type 0} (becomes : U → T → Type 0) (steps : T → Option (Bor (List ℕ)) → T → Type 0)

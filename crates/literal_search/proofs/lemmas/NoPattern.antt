@@ -3,22 +3,22 @@ use Rattle.std.proofs.Common.{ℕ, List, ◌≡◌, Bool, Some, [], ◌∷◌, a
 use Rattle.std.specs.List.{repeat}
 use Rattle.literal_base.specs.declared.packed.MatchKind.{MatchKind}
 use Rattle.literal_base.specs.declared.packed.MatchKind.TheVariants.{LeftmostFirst, LeftmostLongest}
-use Rattle.literal_search.specs.Links.{AreLinks}
-use Rattle.literal_search.specs.Inside.Classes.{AreClasses}
-use Rattle.literal_search.specs.Inside.Kept.{numbers_kept}
-use Rattle.literal_search.specs.Inside.Overlapping.{AreListed}
-use Rattle.literal_search.specs.Inside.Prepared.{numbers_for}
-use Rattle.literal_search.specs.Inside.Rows.{packed_classes}
+use Rattle.literal_rows.specs.Links.{AreLinks}
+use Rattle.literal_rows.specs.Inside.Classes.{AreClasses}
+use Rattle.literal_rows.specs.Inside.Kept.{numbers_kept}
+use Rattle.literal_occurrences.specs.Inside.LentTables.{AreListed}
+use Rattle.literal_rows.specs.Inside.Arrays.{numbers_for}
+use Rattle.literal_rows.specs.Inside.Rows.{packed_classes}
 use Rattle.literal_search.specs.Inside.Search.{AreKept}
 use Rattle.literal_search.specs.Prepared.{check_of}
 use Rattle.literal_search.specs.SearchValue.{CanBeKept, NeedFewStates, search_by}
-use Rattle.literal_search.specs.States.{HasTooManyStates}
-use Rattle.literal_search.specs.Table.{nothing}
-use Rattle.literal_search.specs.declared.prepared.TheConstants.{NO_LISTED, NO_PATTERN, NO_PATTERN_LONGEST}
-use Rattle.literal_search.specs.declared.prepared.TheConstants.{OVERLAPPING_VERSION, PREPARED_VERSION, SCAN_LEN}
+use Rattle.literal_rows.specs.States.{HasTooManyStates}
+use Rattle.literal_rows.specs.Table.{nothing}
+use Rattle.literal_rows.specs.declared.array.TheConstants.{NO_LISTED, NO_PATTERN, NO_PATTERN_LONGEST}
+use Rattle.literal_rows.specs.declared.array.TheConstants.{OVERLAPPING_VERSION, PREPARED_VERSION, SCAN_LEN}
 use Rattle.literal_search.proofs.lemmas.BackTables.{kept_all}
-use Rattle.literal_search.proofs.lemmas.LentTables.{listed_all}
-use Rattle.literal_search.proofs.lemmas.Rows.{none_few, none_long, none_recognised, one_class, zeros_classes}
+use Rattle.literal_occurrences.proofs.lemmas.LentTables.{listed_all}
+use Rattle.literal_rows.proofs.lemmas.Rows.{none_few, none_long, none_recognised, one_class, zeros_classes}
 
 -- they are those that would be written
 first_written : NO_PATTERN ≡ numbers_for PREPARED_VERSION 0 (repeat 256 (0 ∷ [])) 1 [] (0 ∷ nothing ∷ []) []

@@ -14,7 +14,7 @@ use Rattle.literal_search.specs.PreparedOverlapping.{overlapping_value}
 use Rattle.literal_search.specs.Stream.{known}
 use Rattle.literal_search.specs.Inside.OverlappingStream.{GoesOver}
 use Rattle.literal_search.proofs.lemmas.OverlappingStreams.{cut_at}
-use Rattle.literal_search.proofs.lemmas.Overlapping.{overlapping_from_yields}
+use Rattle.literal_occurrences.proofs.lemmas.Overlapping.{overlapping_from_yields}
 use Rattle.literal_search.proofs.lemmas.Streams.{seen_all, seen_whole}
 
 -- before the text is read it goes through all of it

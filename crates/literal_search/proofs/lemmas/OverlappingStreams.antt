@@ -24,9 +24,9 @@ use Rattle.literal_search.specs.OverlappingStream.{MayComeBefore, most_in_stream
 use Rattle.literal_search.specs.PreparedOverlapping.{IsNotBefore}
 use Rattle.literal_search.specs.Stream.{ReadsOn}
 use Rattle.literal_search.specs.Inside.OverlappingStream.{HasCome, pattern_after}
-use Rattle.literal_search.specs.Inside.Position.{HaveSameToCome}
-use Rattle.literal_search.proofs.lemmas.Automaton.{in_haystack, in_part}
-use Rattle.literal_search.proofs.lemmas.Position.{next_moved}
+use Rattle.literal_occurrences.specs.Inside.Position.{HaveSameToCome}
+use Rattle.literal_occurrences.proofs.lemmas.Automaton.{in_haystack, in_part}
+use Rattle.literal_occurrences.proofs.lemmas.Position.{next_moved}
 
 -- a text, followed by the first bytes of a part, and by one more
 pub text_more : (text part : List ℕ) (at : ℕ) → at < length part

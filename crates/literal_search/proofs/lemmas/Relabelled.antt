@@ -10,18 +10,18 @@ use Rattle.std.proofs.lemmas.Simd.{map-map}
 use Rattle.std.proofs.lemmas.Slice.Eq.{starts_is}
 use Rattle.std.specs.List.{position_or_len, starts_with}
 use Rattle.literal_base.specs.Occurs.{pattern_at}
-use Rattle.literal_search.specs.Inside.Classes.{Tells, symbols_in}
+use Rattle.literal_rows.specs.Inside.Classes.{Tells, symbols_in}
 use Rattle.literal_search.specs.Prepared.{RefusesToPrepare, TakesPlaces}
 use Rattle.literal_base.specs.declared.packed.MatchKind.{MatchKind}
 use Rattle.literal_base.specs.declared.packed.MatchKind.TheVariants.{LeftmostFirst, LeftmostLongest}
 use Rattle.literal_search.specs.SearchValue.{SearchValue, first_prefix, reversed, unshadowed, width_for}
-use Rattle.literal_search.specs.States.{AreStates, IsRowsLength, IsStateCount}
-use Rattle.literal_search.specs.Table.{stride_of}
-use Rattle.literal_search.specs.Words.{begins_one}
-use Rattle.literal_search.specs.declared.prepared.ArrayTooShort.{ArrayTooShort}
-use Rattle.literal_search.proofs.lemmas.Reversed.{back_at, back_count, reverse_map}
-use Rattle.literal_search.proofs.lemmas.Shadowed.{first_found, found_is, no_later}
-use Rattle.literal_search.proofs.lemmas.Live.{one_begins}
+use Rattle.literal_rows.specs.States.{AreStates, IsRowsLength, IsStateCount}
+use Rattle.literal_rows.specs.Table.{stride_of}
+use Rattle.literal_rows.specs.Words.{begins_one}
+use Rattle.literal_rows.specs.declared.array.ArrayTooShort.{ArrayTooShort}
+use Rattle.literal_rows.proofs.lemmas.Reversed.{back_at, back_count, reverse_map}
+use Rattle.literal_rows.proofs.lemmas.Shadowed.{first_found, found_is, no_later}
+use Rattle.literal_rows.proofs.lemmas.Live.{one_begins}
 
 -- functions that agree on a list
 map_same : (f g : ℕ → ℕ) (xs : List ℕ) → ((k : ℕ) → k < length xs → f (get_or xs k 0) ≡ g (get_or xs k 0))

@@ -15,7 +15,7 @@ use Rattle.literal_base.specs.Occurs.{NoneIsEmpty, between, pattern_at}
 use Rattle.literal_base.specs.Query.{Query}
 use Rattle.literal_base.proofs.lemmas.Exists.{greedy_exists_lem}
 use Rattle.literal_search.proofs.lemmas.Callers.{greedy_after, matches_of}
-use Rattle.literal_search.proofs.lemmas.Prepared.{length_part}
+use Rattle.literal_rows.proofs.lemmas.Arrays.{length_part}
 use Rattle.literal_search.specs.MatchesValue.{GivesMatch, MatchesValue}
 use Rattle.literal_search.specs.Replaced.{IsReplaced, RefusesToReplace, replaced}
 use Rattle.literal_search.specs.SearchValue.{SearchValue}

@@ -5,13 +5,13 @@ use Rattle.std.proofs.lemmas.List.{length-map}
 use Rattle.std.specs.Borrow.{Bor}
 use Rattle.literal_base.specs.MatchValue.{MatchValue}
 use Rattle.literal_base.specs.Occurs.{NoneIsEmpty, between, pattern_at, whole_of}
-use Rattle.literal_search.specs.Inside.WholeWords.{AreWordsUpToBy}
+use Rattle.literal_words.specs.Inside.WholeWords.{AreWordsUpToBy}
 use Rattle.literal_search.specs.Replaced.{IsReplacedBy, RefusesToReplaceBy, replaced}
 use Rattle.literal_search.specs.WholeWords.{AreWholeWordsBy, AreWordsFromBy, GivesWholeWordBy, GivesWordBySides}
 use Rattle.literal_search.specs.WholeWords.{IsFirstAloneBy, WholeWordMatchesValue, WholeWordsValue}
 use Rattle.literal_search.specs.WholeWords.{WordMatchesBySidesValue}
 use Rattle.literal_search.specs.declared.replace.ReplaceError.TheVariants.{OutOfMemory}
-use Rattle.literal_search.proofs.lemmas.WholeWords.{words_exist, words_next_by}
+use Rattle.literal_words.proofs.lemmas.WholeWords.{words_exist, words_next_by}
 
 -- what an iteration over whole words gives that goes on at an offset
 pub word_at : {words : WholeWordsValue} {haystack sides by : List ℕ} {it o : WholeWordMatchesValue} {at : ℕ}

@@ -17,9 +17,9 @@ use Rattle.literal_search.specs.ReplacedStream.{RewritesAllOf, RewritesMatch, Re
 use Rattle.literal_search.specs.Inside.Rewriting.{HasRewritten}
 use Rattle.literal_search.specs.Inside.Stream.{AnswersAhead, AreMatches, IsFirst, margin_of, reach_of, search_of}
 use Rattle.literal_search.specs.declared.sought.Sought.{Sought}
-use Rattle.literal_search.specs.declared.stream.SoFar.TheVariants.{Found, NoneBefore}
+use Rattle.literal_leftmost.specs.declared.so_far.SoFar.TheVariants.{Found, NoneBefore}
 use Rattle.literal_search.proofs.lemmas.Sought.{goes_after, goes_none, goes_some, matches_later, nothing_last}
-use Rattle.literal_search.proofs.lemmas.Walk.{slice_halves}
+use Rattle.literal_rows.proofs.lemmas.Walk.{slice_halves}
 
 -- a part of a text is the same part of a longer one
 pub part_longer : (text piece : List ℕ) (from to : ℕ) → to ≤ length text → from ≤ to

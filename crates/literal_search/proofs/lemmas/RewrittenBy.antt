@@ -23,7 +23,7 @@ use Rattle.literal_search.specs.declared.replace_stream.ReplaceStreamError.{Repl
 use Rattle.literal_search.specs.declared.replace_stream.ReplaceStreamError.TheVariants.{NotOneForEach, OutOfMemory}
 use Rattle.literal_search.specs.declared.replace_stream.ReplaceStreamError.TheVariants.{ReadFailed, WriteFailed}
 use Rattle.literal_search.proofs.lemmas.Rewritten.{part_longer}
-use Rattle.literal_search.proofs.lemmas.Walk.{slice_halves}
+use Rattle.literal_rows.proofs.lemmas.Walk.{slice_halves}
 
 -- a list begins at an offset or later
 abbrev pub BeginsFrom : ℕ → List MatchValue → Type 0

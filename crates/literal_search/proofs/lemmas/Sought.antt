@@ -15,17 +15,19 @@ use Rattle.literal_search.specs.SearchValue.{longest_of}
 use Rattle.literal_search.specs.Stream.{AnswersSoFar, IsKnownBy}
 use Rattle.literal_search.specs.WholeWords.{IsFirstAlone, OccursAlone, WholeWordsValue, is_word_at, is_word_before}
 use Rattle.literal_search.specs.Inside.Stream.{Answers, AnswersAhead, AreHeldFrom, AreMatches, Begins, IsFirst}
-use Rattle.literal_search.specs.Inside.Stream.{IsSearchIn, IsThrough, IsWindow, TellsOf, block, held, margin_of}
+use Rattle.literal_search.specs.Inside.Stream.{IsSearchIn, IsThrough, IsWindow, block, held, margin_of}
+use Rattle.literal_leftmost.specs.SoFar.{TellsOf}
 use Rattle.literal_search.specs.Inside.Stream.{reach_of, search_of, shifted, told_later}
 use Rattle.literal_search.specs.declared.reading.Reading.{Reading}
 use Rattle.literal_search.specs.declared.sought.BlockSearch.{BlockSearch}
 use Rattle.literal_search.specs.declared.sought.Sought.{Sought}
 use Rattle.literal_search.specs.declared.sought.Sought.TheVariants.{Any, Words}
-use Rattle.literal_search.specs.declared.stream.SoFar.{SoFar}
-use Rattle.literal_search.specs.declared.stream.SoFar.TheVariants.{Found, NoneBefore}
+use Rattle.literal_leftmost.specs.declared.so_far.SoFar.{SoFar}
+use Rattle.literal_leftmost.specs.declared.so_far.SoFar.TheVariants.{Found, NoneBefore}
 use Rattle.literal_search.specs.declared.window.Window.{Window}
-use Rattle.literal_search.proofs.lemmas.Longest.{longest_is}
-use Rattle.literal_search.proofs.lemmas.Streams.{GoesFrom, block_is, gone_long, occurs_prefix}
+use Rattle.literal_rows.proofs.lemmas.Longest.{longest_is}
+use Rattle.literal_search.proofs.lemmas.Streams.{GoesFrom, block_is, gone_long}
+use Rattle.literal_leftmost.proofs.lemmas.SoFar.{occurs_prefix}
 
 -- what is searched for goes from an offset on
 goes_later : (s : Sought) (text : List ℕ) (from to i p : ℕ) → to ≤ p → Begins s text from i p → Begins s text to i p

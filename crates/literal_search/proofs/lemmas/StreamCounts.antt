@@ -13,24 +13,24 @@ use Rattle.literal_search.specs.Stream.{ScansMore}
 use Rattle.literal_search.specs.SearchValue.{longest_of, most_scanned}
 use Rattle.literal_search.specs.Stream.{bytes_read, most_words_scanned}
 use Rattle.literal_search.specs.WholeWords.{ScansWordsBy, most_at_start}
-use Rattle.literal_search.specs.Inside.Cursor.{IsCursor, IsIn, look_ups_of, looked_in}
+use Rattle.literal_leftmost.specs.Inside.Cursor.{IsCursor, IsIn, look_ups_of, looked_in}
 use Rattle.literal_search.specs.Inside.Stream.{AreHeldFrom, AreTablesOf, IsOpen, IsSearchIn, IsWindow, done_to, held}
 use Rattle.literal_search.specs.Inside.Stream.{kept_back}
 use Rattle.literal_search.specs.Inside.Stream.{looked_in_block, looked_so_far, margin_of, most_in_block, reach_of}
 use Rattle.literal_search.specs.Inside.Stream.{search_of}
-use Rattle.literal_search.specs.declared.backward.Marks.{Marks}
-use Rattle.literal_search.specs.declared.cursor.Cursor.{Cursor}
-use Rattle.literal_search.specs.declared.cursor.Room.{Room}
-use Rattle.literal_search.specs.declared.cursor.Room.TheVariants.{Block, Trailed}
+use Rattle.literal_leftmost.specs.declared.backward.Marks.{Marks}
+use Rattle.literal_leftmost.specs.declared.cursor.Cursor.{Cursor}
+use Rattle.literal_leftmost.specs.declared.cursor.Room.{Room}
+use Rattle.literal_leftmost.specs.declared.cursor.Room.TheVariants.{Block, Trailed}
 use Rattle.literal_search.specs.declared.reading.Reading.{Reading}
 use Rattle.literal_search.specs.declared.sought.BlockSearch.{BlockSearch}
 use Rattle.literal_search.specs.declared.sought.Sought.{Sought}
 use Rattle.literal_search.specs.declared.sought.Sought.TheVariants.{Any, Words}
-use Rattle.literal_search.specs.declared.stream.SoFar.TheVariants.{NoneBefore}
+use Rattle.literal_leftmost.specs.declared.so_far.SoFar.TheVariants.{NoneBefore}
 use Rattle.literal_search.specs.declared.window.Window.{Window}
-use Rattle.literal_search.specs.declared.word_search.Words as word_search
-use Rattle.literal_search.proofs.lemmas.Iterations.{scanned_on}
-use Rattle.literal_search.proofs.lemmas.Passes.{paid_and_marked, paid_on, thrice}
+use Rattle.literal_words.specs.declared.word_search.Words as word_search
+use Rattle.literal_leftmost.proofs.lemmas.Iterations.{scanned_on}
+use Rattle.literal_leftmost.proofs.lemmas.Passes.{paid_and_marked, paid_on, thrice}
 use Rattle.literal_search.proofs.lemmas.Streams.{block_long}
 
 -- the bound of a list is the sum of the bounds of its parts

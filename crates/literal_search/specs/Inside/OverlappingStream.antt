@@ -6,7 +6,7 @@ use Rattle.literal_search.specs.Automaton.{AreAtEnd, IsStateAfter}
 use Rattle.literal_search.specs.Overlapping.{OverlappingValue}
 use Rattle.literal_search.specs.OverlappingStream.{MayComeBefore, OverlappingStreamValue, ReadsIfNeeded, search_within}
 use Rattle.literal_search.specs.PreparedOverlapping.{Tables, overlapping_value}
-use Rattle.literal_search.specs.Inside.Position.{HaveSameToCome}
+use Rattle.literal_occurrences.specs.Inside.Position.{HaveSameToCome}
 use Rattle.literal_search.specs.Inside.Stream.{held}
 use Rattle.literal_search.specs.declared.overlapping_stream.Place.{Place}
 use Rattle.literal_search.specs.declared.reading.Reading.{Reading}

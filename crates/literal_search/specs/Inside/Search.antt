@@ -3,17 +3,17 @@ use Rattle.std.specs.Prelude.{◌≡◌, ◌<◌, ℕ, List, length, map}
 use Rattle.literal_base.specs.Occurs.{IsValidSpan}
 use Rattle.literal_base.specs.declared.search.Span.{Span}
 use Rattle.literal_search.specs.SearchValue.{SearchValue, search_by, shortest_of, width_for}
-use Rattle.literal_search.specs.Inside.Backward.{AreBackFor, IsSafe, back_tables_by}
-use Rattle.literal_search.specs.Inside.Cursor.{IsCursor, KnowsAhead}
+use Rattle.literal_leftmost.specs.Inside.Backward.{AreBackFor, IsSafe, back_tables_by}
+use Rattle.literal_leftmost.specs.Inside.Cursor.{IsCursor, KnowsAhead}
 use Rattle.literal_search.specs.Prepared.{rows_in, width_in}
 use Rattle.literal_search.specs.Prepared.{BackTables, IsPrepared, back_tables_in, prepared_len, texts_back}
-use Rattle.literal_search.specs.States.{IsRowsLength}
+use Rattle.literal_rows.specs.States.{IsRowsLength}
 use Rattle.literal_search.specs.declared.BuildError.{BuildError}
 use Rattle.literal_search.specs.declared.BuildError.TheVariants.{OutOfMemory, TooManyStates}
-use Rattle.literal_search.specs.declared.backward.Backward.{Backward}
-use Rattle.literal_search.specs.declared.cursor.Cursor.{Cursor}
-use Rattle.literal_search.specs.declared.grow.GrowError.{GrowError}
-use Rattle.literal_search.specs.declared.grow.GrowError.TheVariants as grow_error
+use Rattle.literal_leftmost.specs.declared.backward.Backward.{Backward}
+use Rattle.literal_leftmost.specs.declared.cursor.Cursor.{Cursor}
+use Rattle.literal_rows.specs.declared.grow.GrowError.{GrowError}
+use Rattle.literal_rows.specs.declared.grow.GrowError.TheVariants as grow_error
 use Rattle.literal_search.specs.declared.search.Parts.{Parts}
 
 -- the patterns

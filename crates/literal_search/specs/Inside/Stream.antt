@@ -1,6 +1,6 @@
 -- The known part of a text that is read in pieces, and what a search finds in it.
 use Rattle.std.specs.Prelude.{⊤, ◌≡◌, ℕ, ◌+◌, ◌-◌, ◌*◌, ◌<◌, ◌≤◌, ◌^◌, ◌++◌, Bool, false, List, None, Option, Some}
-use Rattle.std.specs.Prelude.{[], IfSome, drop, if◌then◌else◌, is_none, length, max, true}
+use Rattle.std.specs.Prelude.{[], drop, if◌then◌else◌, is_none, length, max, true}
 use Rattle.std.specs.Io.KnownBytes.{IsAtEnd}
 use Rattle.std.specs.IoError.{error_kind}
 use Rattle.std.specs.List.{slice_range}
@@ -13,22 +13,17 @@ use Rattle.literal_base.specs.declared.search.Span.{Span}
 use Rattle.literal_search.specs.SearchValue.{SearchValue, longest_of, most_scanned}
 use Rattle.literal_search.specs.Stream.{PassesOver, ReadsPiece, StreamValue, most_words_scanned}
 use Rattle.literal_search.specs.WholeWords.{AreWordsFrom, IsFirstAlone, OccursAlone, most_at_start}
-use Rattle.literal_search.specs.Inside.Backward.{AreBackFor, ForBackward, IsSafe}
-use Rattle.literal_search.specs.Inside.Cursor.{IsCursor, KnowsAhead, look_ups_of}
-use Rattle.literal_search.specs.Inside.WholeWords.{AreTablesFor}
+use Rattle.literal_leftmost.specs.Inside.Backward.{AreBackFor, ForBackward, IsSafe}
+use Rattle.literal_leftmost.specs.Inside.Cursor.{IsCursor, KnowsAhead, look_ups_of}
+use Rattle.literal_words.specs.Inside.WholeWords.{AreTablesFor}
 use Rattle.literal_search.specs.declared.reading.Reading.{Reading}
 use Rattle.literal_search.specs.declared.sought.BlockSearch.{BlockSearch}
 use Rattle.literal_search.specs.declared.sought.Sought.{Sought}
 use Rattle.literal_search.specs.declared.sought.Sought.TheVariants.{Any, Words}
-use Rattle.literal_search.specs.declared.stream.SoFar.{SoFar}
-use Rattle.literal_search.specs.declared.stream.SoFar.TheVariants.{Found, NoneBefore}
+use Rattle.literal_leftmost.specs.declared.so_far.SoFar.{SoFar}
+use Rattle.literal_leftmost.specs.declared.so_far.SoFar.TheVariants.{Found, NoneBefore}
 use Rattle.literal_search.specs.declared.window.Window.{Window}
-use Rattle.literal_search.specs.declared.word_search.Words as word_search
-
--- the answer is the match itself, or an offset at which it begins or before it
-abbrev pub TellsOf : Option MatchValue → SoFar → Type 0
-TellsOf leftmost (Found found) = leftmost ≡ Some found
-TellsOf leftmost (NoneBefore offset) = IfSome leftmost (λ found. offset ≤ found.start)
+use Rattle.literal_words.specs.declared.word_search.Words as word_search
 
 -- the bytes that were read and may still be needed
 abbrev pub held : Window → List ℕ

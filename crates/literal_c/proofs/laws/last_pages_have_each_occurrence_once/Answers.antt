@@ -1,5 +1,5 @@
 use Rattle.std.proofs.Common.{⊎_elim, refl, map, take, None, arith}
-use Rattle.literal_search.proofs.lemmas.Overlapping.{overlapping_from_yields}
+use Rattle.literal_occurrences.proofs.lemmas.Overlapping.{overlapping_from_yields}
 use Rattle.literal_search.specs.OverlappingMatchesValue.{gone_on}
 use Rattle.literal_c.specs.Answers.{match_of}
 use Rattle.literal_c.specs.Overlapping.{all_that_occurs}

@@ -1,5 +1,5 @@
 use Rattle.literal_search.specs.PreparedOverlapping.{tables_in}
-use Rattle.literal_search.proofs.lemmas.Automaton.{ends_above, one_ends, starts_empty}
+use Rattle.literal_occurrences.proofs.lemmas.Automaton.{ends_above, one_ends, starts_empty}
 use Rattle.literal_c.proofs.laws.states_tell_whether_a_pattern_ends.Goals as goal
 
 pub returns-clause-start : goal.returns-clause-start

@@ -8,7 +8,7 @@ use Rattle.literal_search.specs.Overlapping.{OverlappingValue}
 use Rattle.literal_base.specs.declared.packed.MatchKind.TheVariants.{LeftmostFirst, LeftmostLongest}
 use Rattle.literal_search.specs.Prepared.{IsPrepared, kind_in, prepared_len, rows_end}
 use Rattle.literal_search.specs.PreparedOverlapping.{IsPreparedOverlapping, ends_at, overlapping_len}
-use Rattle.literal_search.proofs.lemmas.BackTables.{same_tables as same_back}
+use Rattle.literal_leftmost.proofs.lemmas.BackTables.{same_tables as same_back}
 use Rattle.literal_search.proofs.laws.first_places_are_enough.Goals as goal
 
 -- a part of the first entries is that of all

@@ -1,4 +1,4 @@
-use Rattle.literal_search.proofs.lemmas.Overlapping.{overlapping_from_yields}
+use Rattle.literal_occurrences.proofs.lemmas.Overlapping.{overlapping_from_yields}
 use Rattle.literal_search.proofs.laws.iterations_give_each_occurrence_once.Goals as goal
 
 pub returns : goal.returns

@@ -1,7 +1,8 @@
 use Rattle.std.proofs.iter.Next.{Yields-more}
 use Rattle.literal_search.specs.MatchesValue.{GivesCounted}
 use Rattle.literal_search.proofs.lemmas.Callers.{greedy_from_yields}
-use Rattle.literal_search.proofs.lemmas.Iterations.{gives_from_counted, scans_each_from_yields, scans_rest_from_yields}
+use Rattle.literal_leftmost.proofs.lemmas.Iterations.{gives_from_counted, scans_each_from_yields}
+use Rattle.literal_leftmost.proofs.lemmas.Iterations.{scans_rest_from_yields}
 use Rattle.literal_search.proofs.laws.iterations_scan_at_most.Goals as goal
 
 pub returns-clause-bounded : goal.returns-clause-bounded

@@ -1,5 +1,5 @@
 use Rattle.std.proofs.Common.{arith}
-use Rattle.literal_search.proofs.lemmas.Automaton.{all_in_haystack, in_haystack, in_part}
+use Rattle.literal_occurrences.proofs.lemmas.Automaton.{all_in_haystack, in_haystack, in_part}
 use Rattle.literal_search.proofs.laws.parts_end_as_in_the_haystack.Goals as goal
 
 pub returns-clause-one : goal.returns-clause-one

@@ -2,7 +2,7 @@ use Rattle.std.proofs.Common.{arith, ◌≡◌, ◌∙◌, ℕ, List, [], ◌∷
 use Rattle.std.proofs.lemmas.List.Elements.{All-drop, All-head, All-take}
 use Rattle.std.specs.List.{All}
 use Rattle.literal_search.specs.Prepared.{check_of}
-use Rattle.literal_search.proofs.lemmas.Check.{zeros_are_told}
+use Rattle.literal_rows.proofs.lemmas.Check.{zeros_are_told}
 use Rattle.literal_search.proofs.laws.zeros_are_refused.Goals as goal
 
 first_is_zero : (zeros : List ℕ) → All (λ number. number ≡ 0) zeros → get_or zeros 0 0 ≡ 0

@@ -2,14 +2,14 @@ use Rattle.std.proofs.Common.{◌∙◌, ℕ, List, [], arith, map, refl, subst,
 use Rattle.std.proofs.lemmas.Bool.{eqb-true}
 use Rattle.std.proofs.lemmas.List.{length-map, nil_from_length}
 use Rattle.std.specs.Global.{Vec}
-use Rattle.literal_search.specs.Inside.Overlapping.{AreListed}
+use Rattle.literal_occurrences.specs.Inside.LentTables.{AreListed}
 use Rattle.literal_search.specs.PreparedOverlapping.{AreTables, Tables, overlapping_value}
 use Rattle.literal_search.specs.SearchValue.{NeedFewStates, NeedTooManyStates}
-use Rattle.literal_search.specs.States.{HasTooManyStates}
+use Rattle.literal_rows.specs.States.{HasTooManyStates}
 use Rattle.literal_search.proofs.lemmas.BackTables.{short_forward}
-use Rattle.literal_search.proofs.lemmas.Built.{holds_in, passed_on, same_texts}
-use Rattle.literal_search.proofs.lemmas.Found.{some_symbols}
-use Rattle.literal_search.proofs.lemmas.LentTables.{listed_all}
+use Rattle.literal_rows.proofs.lemmas.Built.{holds_in, passed_on, same_texts}
+use Rattle.literal_rows.proofs.lemmas.Found.{some_symbols}
+use Rattle.literal_occurrences.proofs.lemmas.LentTables.{listed_all}
 use Rattle.literal_search.proofs.lemmas.NoPattern.{none_are_listed, none_need_few_states}
 use Rattle.literal_search.proofs.overlapping.numbers_of.Goals as goal
 

@@ -17,7 +17,7 @@ use Rattle.literal_search.specs.ReplacedStream.{StopsRewritingOf}
 use Rattle.literal_search.specs.Inside.Rewriting.{IsOfFailure}
 use Rattle.literal_search.specs.Inside.Stream.{AnswersAhead, IsSearchIn, held, kept_back, margin_of, reach_of}
 use Rattle.literal_search.specs.declared.replace_stream.ReplaceStreamError.{ReplaceStreamError}
-use Rattle.literal_search.specs.declared.stream.SoFar.TheVariants.{NoneBefore}
+use Rattle.literal_leftmost.specs.declared.so_far.SoFar.TheVariants.{NoneBefore}
 use Rattle.literal_search.proofs.lemmas.Rewritten.{all_rewritten, none_rewritten, turn_matched, turn_passed}
 use Rattle.literal_search.proofs.replace_stream.rewrite.Goals.{in-Found+in_ok-put-in-Found+in_ok-after_write-in-Found}
 use Rattle.literal_search.proofs.replace_stream.rewrite.Goals.{in-NoneBefore+in_ok-put-in-NoneBefore}

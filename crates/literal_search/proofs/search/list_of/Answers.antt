@@ -6,9 +6,10 @@ use Rattle.literal_base.specs.declared.search.Span.{Span}
 use Rattle.literal_search.specs.MatchesValue.{GivesCounted, MatchesValue}
 use Rattle.literal_search.specs.SearchValue.{SearchValue}
 use Rattle.literal_search.proofs.lemmas.Callers.{greedy_from_yields}
-use Rattle.literal_search.proofs.lemmas.GreedyIn.{leftmost_occurs, on_err}
-use Rattle.literal_search.proofs.lemmas.Iterations.{gives_from_counted, scans_each_from_yields, scans_part_from_yields}
-use Rattle.literal_search.proofs.lemmas.Iterations.{scans_rest_from_yields}
+use Rattle.literal_leftmost.proofs.lemmas.GreedyIn.{leftmost_occurs, on_err}
+use Rattle.literal_leftmost.proofs.lemmas.Iterations.{gives_from_counted, scans_each_from_yields}
+use Rattle.literal_leftmost.proofs.lemmas.Iterations.{scans_part_from_yields}
+use Rattle.literal_leftmost.proofs.lemmas.Iterations.{scans_rest_from_yields}
 use Rattle.literal_search.proofs.search.list_of.Goals as goal
 
 pub loop-found-preserved : goal.loop-found-preserved

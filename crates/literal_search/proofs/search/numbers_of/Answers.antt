@@ -4,15 +4,15 @@ use Rattle.std.proofs.lemmas.List.{length-map, nil_from_length}
 use Rattle.std.specs.Global.{Vec}
 use Rattle.literal_search.specs.Inside.Search.{AreKept}
 use Rattle.literal_base.specs.declared.packed.MatchKind.TheVariants.{LeftmostLongest}
-use Rattle.literal_search.specs.Inside.Classes.{symbols_in}
-use Rattle.literal_search.specs.Inside.Prepared.{kind_number, numbers_for}
-use Rattle.literal_search.specs.declared.prepared.TheConstants.{PREPARED_VERSION}
-use Rattle.literal_search.specs.Links.{AreLinks}
+use Rattle.literal_rows.specs.Inside.Classes.{symbols_in}
+use Rattle.literal_rows.specs.Inside.Arrays.{kind_number, numbers_for}
+use Rattle.literal_rows.specs.declared.array.TheConstants.{PREPARED_VERSION}
+use Rattle.literal_rows.specs.Links.{AreLinks}
 use Rattle.literal_search.specs.SearchValue.{reversed, unshadowed}
 use Rattle.literal_search.specs.Prepared.{AreBackTables, BackTables, texts_back}
 use Rattle.literal_search.specs.SearchValue.{NeedFewReversed, NeedTooManyReversed, longest_of, search_by}
 use Rattle.literal_search.proofs.lemmas.BackTables.{kept_all, links_between, short_by}
-use Rattle.literal_search.proofs.lemmas.Built.{holds_in, passed_on}
+use Rattle.literal_rows.proofs.lemmas.Built.{holds_in, passed_on}
 use Rattle.literal_search.proofs.lemmas.NoPattern.{none_are_kept, none_need_few_states}
 use Rattle.literal_search.proofs.search.numbers_of.Goals as goal
 

@@ -1,7 +1,7 @@
 use Rattle.std.proofs.Common.{◌≡◌, ◌-◌, ◌∙◌, List, ap, arith, length, subst, sym, ℕ}
 use Rattle.std.specs.List.{slice_range}
 use Rattle.literal_search.specs.Inside.Stream.{AreTablesOf, IsThrough, block, held}
-use Rattle.literal_search.specs.declared.word_search.Words.{Words}
+use Rattle.literal_words.specs.declared.word_search.Words.{Words}
 use Rattle.literal_search.proofs.lemmas.StreamCounts.{paid_on_going_on}
 use Rattle.literal_search.proofs.stream.go_on.Goals as goal
 

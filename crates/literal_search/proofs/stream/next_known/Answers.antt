@@ -5,7 +5,7 @@ use Rattle.literal_base.specs.declared.search.Span.{Span}
 use Rattle.literal_search.specs.Inside.Stream.{AnswersAhead, AreHeldFrom, done_to, held, margin_of, most_in_block}
 use Rattle.literal_search.specs.Inside.Stream.{AreTablesOf, IsThrough, block, reach_of, shifted}
 use Rattle.literal_search.specs.declared.sought.BlockSearch.{BlockSearch}
-use Rattle.literal_search.specs.declared.stream.SoFar.TheVariants.{Found, NoneBefore}
+use Rattle.literal_leftmost.specs.declared.so_far.SoFar.TheVariants.{Found, NoneBefore}
 use Rattle.literal_search.specs.declared.window.Window.{Window}
 use Rattle.literal_search.proofs.lemmas.Sought.{answers_in_block}
 use Rattle.literal_search.proofs.lemmas.StreamCounts.{IsPast, begun_so_far, block_passed, idle_so_far, past_block}

@@ -1,7 +1,7 @@
 use borrow.Rule.Slice.PartMut.{put_mid, same_len_mid}
 use Rattle.std.proofs.Common.{◌∙◌, ◌+◌, ◌-◌, ap, arith, drop, length, slice_range, sym, ℕ, List}
 use Rattle.std.proofs.lemmas.List.{with_items_is}
-use Rattle.literal_search.proofs.lemmas.Prepared.{length_part}
+use Rattle.literal_rows.proofs.lemmas.Arrays.{length_part}
 use Rattle.literal_folding.proofs.lemmas.Blocks.{part_written}
 use Rattle.literal_folding.proofs.lemmas.Texts.{length-folded}
 use Rattle.literal_folding.proofs.block.Block.fold.Goals as goal

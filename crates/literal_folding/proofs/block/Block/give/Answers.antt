@@ -1,6 +1,6 @@
 use Rattle.std.proofs.Common.{arith, length, ap}
 use Rattle.literal_fingerprints.proofs.lemmas.Skipped.{part_behind}
-use Rattle.literal_search.proofs.lemmas.Prepared.{length_part}
+use Rattle.literal_rows.proofs.lemmas.Arrays.{length_part}
 use Rattle.literal_folding.proofs.block.Block.give.Goals as goal
 
 pub returns-clause-ready : goal.returns-clause-ready

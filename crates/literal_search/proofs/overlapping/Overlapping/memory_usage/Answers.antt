@@ -1,7 +1,7 @@
 use Rattle.std.proofs.Common.{◌+◌, ◌*◌, arith, length, subst, sum_by}
 use Rattle.literal_search.specs.Memory.{TakesListedBytes}
 use Rattle.literal_search.specs.Overlapping.{OverlappingValue}
-use Rattle.literal_search.proofs.lemmas.LentTables.{takes_listed}
+use Rattle.literal_occurrences.proofs.lemmas.LentTables.{takes_listed}
 use Rattle.literal_search.proofs.overlapping.Overlapping.memory_usage.Goals as goal
 
 pub returns : goal.returns

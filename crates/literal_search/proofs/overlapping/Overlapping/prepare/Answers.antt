@@ -1,6 +1,6 @@
 use Rattle.std.proofs.Common.{arith}
-use Rattle.literal_search.proofs.lemmas.LentTables.{takes_listed}
-use Rattle.literal_search.proofs.lemmas.Numbers.{put_refuses, put_writes}
+use Rattle.literal_occurrences.proofs.lemmas.LentTables.{takes_listed}
+use Rattle.literal_rows.proofs.lemmas.Numbers.{put_refuses, put_writes}
 use Rattle.literal_search.proofs.overlapping.Overlapping.prepare.Goals as goal
 
 pub returns-clause-ok : goal.returns-clause-ok

@@ -1,11 +1,11 @@
 use Rattle.std.proofs.Common.{MatchOption, Option, arith, subst}
 use Rattle.literal_base.specs.MatchValue.{MatchValue}
 use Rattle.literal_base.specs.declared.search.Match.{Match}
-use Rattle.literal_search.specs.Inside.LentTables.{IsNextBy, tables_by}
+use Rattle.literal_occurrences.specs.Inside.LentTables.{IsNextBy, tables_by}
 use Rattle.literal_search.specs.Inside.Overlapping.{overlapping_of}
-use Rattle.literal_search.specs.Inside.Position.{position_value}
+use Rattle.literal_occurrences.specs.Inside.Position.{position_value}
 use Rattle.literal_search.specs.OverlappingMatchesValue.{IsToCome}
-use Rattle.literal_search.specs.declared.position.Position.{Position}
+use Rattle.literal_occurrences.specs.declared.position.Position.{Position}
 use Rattle.literal_search.proofs.overlapping.OverlappingMatches.next_counted.Goals as goal
 
 pub unreachable-requires : goal.unreachable-requires

@@ -1,4 +1,4 @@
-use Rattle.literal_search.proofs.lemmas.Position.{makes_progress}
+use Rattle.literal_occurrences.proofs.lemmas.Position.{makes_progress}
 use Rattle.literal_search.proofs.overlapping.OverlappingMatchesIterator.next.Goals as goal
 
 pub returns-clause-goes : goal.returns-clause-goes

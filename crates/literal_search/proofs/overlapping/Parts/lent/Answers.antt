@@ -1,7 +1,7 @@
 use Rattle.std.proofs.Common.{◌∙◌, subst, sym}
 use Rattle.literal_search.specs.Inside.Overlapping.{overlapping_of}
 use Rattle.literal_search.specs.PreparedOverlapping.{IsPreparedOverlapping}
-use Rattle.literal_search.proofs.lemmas.LentTables.{are_for}
+use Rattle.literal_occurrences.proofs.lemmas.LentTables.{are_for}
 use Rattle.literal_search.proofs.overlapping.Parts.lent.Goals as goal
 
 pub returns-clause-is_for : goal.returns-clause-is_for

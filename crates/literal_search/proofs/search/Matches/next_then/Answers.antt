@@ -1,11 +1,11 @@
 use Rattle.std.proofs.Common.{ℕ, ap, subst}
-use Rattle.literal_search.specs.Inside.Backward.{offset_by}
-use Rattle.literal_search.specs.Inside.Cursor.{look_ups_of}
+use Rattle.literal_leftmost.specs.Inside.Backward.{offset_by}
+use Rattle.literal_leftmost.specs.Inside.Cursor.{look_ups_of}
 use Rattle.literal_search.specs.Inside.Search.{search_value}
 use Rattle.literal_search.specs.LookUps.{LooksOn}
 use Rattle.literal_search.specs.MatchesValue.{GivesThen, MatchesValue}
 use Rattle.literal_search.specs.SearchValue.{longest_of}
-use Rattle.literal_search.proofs.lemmas.Prepared.{some_by}
+use Rattle.literal_leftmost.proofs.lemmas.Prepared.{some_by}
 use Rattle.literal_search.proofs.search.Matches.next_then.Goals as goal
 
 pub unreachable-requires : goal.unreachable-requires

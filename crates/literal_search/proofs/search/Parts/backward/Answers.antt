@@ -1,5 +1,5 @@
 use Rattle.std.proofs.Common.{List, ℕ, subst, sym, ◌≡◌}
-use Rattle.literal_search.specs.Inside.Backward.{back_tables_by}
+use Rattle.literal_leftmost.specs.Inside.Backward.{back_tables_by}
 use Rattle.literal_search.specs.Inside.Search.{search_value}
 use Rattle.literal_search.specs.Prepared.{IsPrepared, back_tables_in}
 use Rattle.literal_search.proofs.search.Parts.backward.Goals as goal

@@ -1,4 +1,4 @@
-use Rattle.literal_search.specs.Inside.Backward.{back_tables_by}
+use Rattle.literal_leftmost.specs.Inside.Backward.{back_tables_by}
 use Rattle.literal_search.specs.Inside.Search.{search_value}
 use Rattle.literal_search.proofs.search.Search.find_iter_in_short.Goals as goal
 

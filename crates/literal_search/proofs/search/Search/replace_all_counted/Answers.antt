@@ -3,8 +3,9 @@ use Rattle.std.proofs.iter.Next.{Yields-more}
 use Rattle.std.specs.List.{slice_range}
 use Rattle.literal_search.specs.MatchesValue.{GivesCounted}
 use Rattle.literal_search.proofs.lemmas.Callers.{matches_of, scans_whole}
-use Rattle.literal_search.proofs.lemmas.Iterations.{gives_from_counted, scans_each_from_yields, scans_part_from_yields}
-use Rattle.literal_search.proofs.lemmas.Iterations.{scans_rest_from_yields}
+use Rattle.literal_leftmost.proofs.lemmas.Iterations.{gives_from_counted, scans_each_from_yields}
+use Rattle.literal_leftmost.proofs.lemmas.Iterations.{scans_part_from_yields}
+use Rattle.literal_leftmost.proofs.lemmas.Iterations.{scans_rest_from_yields}
 use Rattle.literal_search.proofs.lemmas.Replaced.{all_written, refused_at, refused_behind, replacement_at, written_on}
 use Rattle.literal_search.proofs.search.Search.replace_all_counted.Goals as goal
 

@@ -2,7 +2,7 @@ use Rattle.std.proofs.Common.{◌≡◌, ℕ, List, [], Some, ap, arith, inl, in
 use Rattle.std.proofs.lemmas.Bool.{cases_lt}
 use Rattle.std.proofs.lemmas.List.{length-map, nil_from_length}
 use Rattle.std.specs.Global.{Vec}
-use Rattle.literal_search.specs.Inside.Kept.{numbers_kept}
+use Rattle.literal_rows.specs.Inside.Kept.{numbers_kept}
 use Rattle.literal_search.specs.Inside.Search.{AreKept, patterns_of, search_value}
 use Rattle.literal_search.specs.SearchValue.{search_by}
 use Rattle.literal_search.proofs.lemmas.NoPattern.{none_are_kept}

@@ -1,10 +1,10 @@
 use Rattle.std.proofs.Common.{ℕ, ap, subst}
-use Rattle.literal_search.specs.Inside.Cursor.{cursor_by, look_ups_of}
+use Rattle.literal_leftmost.specs.Inside.Cursor.{cursor_by, look_ups_of}
 use Rattle.literal_search.specs.Inside.Search.{search_value}
 use Rattle.literal_search.specs.LookUps.{LooksOn}
 use Rattle.literal_search.specs.MatchesValue.{GivesMatch, MatchesValue}
 use Rattle.literal_search.specs.SearchValue.{longest_of}
-use Rattle.literal_search.proofs.lemmas.Prepared.{some_by}
+use Rattle.literal_leftmost.proofs.lemmas.Prepared.{some_by}
 use Rattle.literal_search.proofs.search.ShortMatchesCountedMatches.next_match.Goals as goal
 
 pub unreachable-requires : goal.unreachable-requires

@@ -2,8 +2,8 @@ use Rattle.std.proofs.Common.{◌∙◌, ◌++◌, ◌∷◌, [], List, Some, ap
 use Rattle.literal_base.specs.MatchValue.{MatchValue}
 use Rattle.literal_base.specs.Occurs.{between}
 use Rattle.literal_base.specs.declared.search.Span.{Span}
-use Rattle.literal_search.specs.Inside.WholeWords.{AreWordsUpTo}
-use Rattle.literal_search.proofs.lemmas.WholeWords.{words_next}
+use Rattle.literal_words.specs.Inside.WholeWords.{AreWordsUpTo}
+use Rattle.literal_words.proofs.lemmas.WholeWords.{words_next}
 use Rattle.literal_search.specs.WholeWords.{AreWholeWords, IsFirstAlone, WholeWordMatchesValue, WholeWordsValue}
 use Rattle.literal_search.proofs.whole_words.WholeWords.find_all_in.Goals as goal
 

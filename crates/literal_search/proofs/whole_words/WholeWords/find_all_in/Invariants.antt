@@ -1,5 +1,5 @@
 use Rattle.std.proofs.Common.{◌≡◌}
-use Rattle.literal_search.specs.Inside.WholeWords.{AreWordsUpTo}
+use Rattle.literal_words.specs.Inside.WholeWords.{AreWordsUpTo}
 use Rattle.literal_search.proofs.whole_words.WholeWords.find_all_in.Given as goal
 
 abbrev pub invariant-loop-found : goal.invariant-loop-found

@@ -1,6 +1,6 @@
 use Rattle.std.proofs.Common.{◌≡◌}
 use Rattle.literal_base.specs.Occurs.{whole_of}
-use Rattle.literal_search.specs.Inside.WholeWords.{AreWordsUpToBy}
+use Rattle.literal_words.specs.Inside.WholeWords.{AreWordsUpToBy}
 use Rattle.literal_search.specs.WordText.{sides_of}
 use Rattle.literal_search.proofs.whole_words.WholeWords.find_text_all.Given as goal
 

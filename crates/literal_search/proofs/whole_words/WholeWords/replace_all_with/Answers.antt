@@ -1,10 +1,10 @@
 use Rattle.std.proofs.Common.{◌∙◌, append-nil, ap, arith, of_calls, refl, rules, subst, sym}
 use Rattle.std.proofs.lemmas.Fn.{FoldsTo-push}
 use Rattle.literal_base.specs.Occurs.{whole_of}
-use Rattle.literal_search.specs.Inside.WholeWords.{AreWordsUpTo}
+use Rattle.literal_words.specs.Inside.WholeWords.{AreWordsUpTo}
 use Rattle.literal_search.specs.WholeWords.{AreWholeWords, WholeWordMatchesValue}
 use Rattle.literal_search.proofs.lemmas.ReplacedWords.{word_at}
-use Rattle.literal_search.proofs.lemmas.WholeWords.{words_next}
+use Rattle.literal_words.proofs.lemmas.WholeWords.{words_next}
 use Rattle.literal_search.proofs.whole_words.WholeWords.replace_all_with.Goals as goal
 
 pub loop-found-init : goal.loop-found-init

@@ -1,7 +1,7 @@
 use Rattle.std.proofs.Common.{◌≡◌, [], length}
 use Rattle.std.specs.List.{FoldsTo}
 use Rattle.literal_base.specs.Occurs.{whole_of}
-use Rattle.literal_search.specs.Inside.WholeWords.{AreWordsUpTo}
+use Rattle.literal_words.specs.Inside.WholeWords.{AreWordsUpTo}
 use Rattle.literal_search.specs.Replaced.{WritesMatch, WritingValue}
 use Rattle.literal_search.proofs.whole_words.WholeWords.replace_all_with.Given as goal
 

@@ -1,0 +1,7 @@
+pub mod At
+pub mod Inside
+pub mod LookUps
+pub mod MatchesValue
+pub mod Prepared
+pub mod SearchValue
+pub mod SoFar

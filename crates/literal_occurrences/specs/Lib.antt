@@ -1,0 +1,7 @@
+pub mod Automaton
+pub mod Earliest
+pub mod Inside
+pub mod Overlapping
+pub mod OverlappingMatchesValue
+pub mod PreparedOverlapping
+pub mod PreparedStates

@@ -1,0 +1,26 @@
+-- Lemmas that several proofs share, by topic.
+pub mod Arrays
+pub mod Behind
+pub mod Built
+pub mod Chains
+pub mod Check
+pub mod Classes
+pub mod Construction
+pub mod Ends
+pub mod EndsFound
+pub mod FirstSuffix
+pub mod Found
+pub mod Grown
+pub mod Live
+pub mod Longest
+pub mod Numbers
+pub mod Packed
+pub mod Prefixes
+pub mod Recognised
+pub mod Reversed
+pub mod Rows
+pub mod ScanNumbers
+pub mod Shadowed
+pub mod States
+pub mod Walk
+pub mod Written

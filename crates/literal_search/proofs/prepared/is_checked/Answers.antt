@@ -1,6 +1,0 @@
-use Rattle.std.proofs.Common.{arith}
-use Rattle.std.proofs.lemmas.Bool.{eqb-true}
-use Rattle.literal_search.proofs.prepared.is_checked.Goals as goal
-
-pub returns : goal.returns
-returns c = grind (arith, eqb-true)

@@ -1,5 +1,0 @@
-use Rattle.std.proofs.Common.{◌≡◌, ◌++◌, take}
-use Rattle.literal_search.proofs.prepared.push_starts.Given as goal
-
-abbrev pub invariant-loop-start : goal.invariant-loop-start
-invariant-loop-start l = l.numbers.items ≡ l.fn.numbers.items ++ take l.start-index l.starts

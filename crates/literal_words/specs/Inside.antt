@@ -1,0 +1,2 @@
+-- Definitions that only models and private functions use.
+pub mod WholeWords

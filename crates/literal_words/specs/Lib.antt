@@ -1,0 +1,4 @@
+pub mod Inside
+pub mod PreparedWords
+pub mod WholeWords
+pub mod WordText
