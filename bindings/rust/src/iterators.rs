@@ -11,9 +11,8 @@ use core::iter::FusedIterator;
 /// How many matches are searched for one by one. For a short text, with few matches, that is faster than a page.
 const SINGLE: usize = 2;
 
-/// How many times as many matches the next page has at most. After its last match a page looks up some 2,000 bytes, or
-/// with a pattern of more than 252 bytes some 3,000 and up to twice as many as the page and that pattern have. The next
-/// page looks them up again. So pages soon become large.
+/// How many times as many matches the next page has at most. After its last match a page looks up bytes that the next
+/// page looks up again (README.md says how many). So pages soon become large.
 const GROWTH: usize = 8;
 
 /// All matches that do not overlap, of [`AhoCorasick::find_iter`](crate::AhoCorasick::find_iter).
