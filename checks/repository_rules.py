@@ -34,7 +34,11 @@ NOT_READ = re.compile(
 )
 
 LONGEST_FILE, LONGEST_README = 800, 130
-LIBRARY_MODULE = re.compile(r"crates/(literal_\w+)/src/(?!lib|\w*tests)(\w+)\.rt")
+LIBRARY_MODULE = re.compile(r"crates/(literal_\w+)/src/(?!lib\.rt|\w*tests\.rt)(\w+)\.rt")
+
+# What the root of a crate uses of a module, and what a module uses of the root.
+EXPORTS = re.compile(r"^(?:pub )?use (\w+)::(\w+|\{[^}]*\});", re.M)
+OF_ROOT = re.compile(r"\bcrate::(?:(\w+)|\{([^}]*)\})")
 WIDE = re.compile(r"^.{121,}")
 MISSING = re.compile(re.escape(f"| {definitions_page.MISSING} |"))
 
@@ -124,13 +128,16 @@ def unsafe(texts):
 
 
 def circles(texts):
-    """In a library no module uses one that uses it, near or far."""
+    """In a library no module uses one that uses it, near or far, also by a name that the root exports."""
     used = {}
     for path, text in texts.items():
         found = LIBRARY_MODULE.fullmatch(path)
         if found:
+            root = code_of(texts[f"crates/{found[1]}/src/lib.rt"])
+            owners = {name: module for module, names in EXPORTS.findall(root) for name in re.findall(r"\w+", names)}
             code = code_of(without_tests(text))
-            used[found.groups()] = {(found[1], name) for name in re.findall(r"\bcrate::(\w+)", code)}
+            names = re.findall(r"\w+", " ".join(map("".join, OF_ROOT.findall(code))))
+            used[found.groups()] = {(found[1], owners.get(name, name)) for name in names}
     left = {it: names & used.keys() - {it} for it, names in used.items()}
     while free := {it for it, names in left.items() if not names}:
         left = {it: names - free for it, names in left.items() if it not in free}

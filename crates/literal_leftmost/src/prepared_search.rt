@@ -25,8 +25,8 @@ use literal_rows::damaged::Damaged;
 use literal_rows::walk::Table;
 use std::marker::Model;
 
-/// Searches for leftmost matches by an array that `Search::prepare` wrote. The array may be
-/// longer. Contracts see the array.
+/// Searches for leftmost matches by an array that `Search::prepare` wrote. The array may be longer. Contracts see the
+/// array.
 #[derive(Drop)]
 pub struct Prepared<'p> {
     numbers: &'p [u32],
@@ -56,10 +56,8 @@ impl<'p> Prepared<'p> {
     }
 
     /// Returns whether the checksum over all numbers of the search is right. It finds each change of one number, unless
-    /// that is a number that says how many there are
-    /// (`changed_number_is_found`), an array of zeros
-    /// (`zeros_are_refused`), and most other changes. It does not find a change that
-    /// is made on purpose to pass.
+    /// that is a number that says how many there are (law `changed_number_is_found` of `literal_search`), an array of
+    /// zeros (`zeros_are_refused`), and most other changes. It does not find a change that is made on purpose to pass.
     pub fn is_whole(&self) -> bool
         ensures { IsTrue result ↔ IsWhole self.now }
     {
@@ -90,9 +88,9 @@ impl<'p> Prepared<'p> {
         self.backward().table.longest
     }
 
-    /// Returns an iterator over all matches in a span of the haystack, as
-    /// `Search::find_iter_in` does. With a changed array it may give other matches, or
-    /// [`Damaged`]. But each lies in the span, is not empty, begins after the previous one, and names a pattern.
+    /// Returns an iterator over all matches in a span of the haystack, as `Search::find_iter_in` does. With a changed
+    /// array it may give other matches, or [`Damaged`]. But each lies in the span, is not empty, begins after the
+    /// previous one, and names a pattern.
     pub fn find_iter_in<'s, 'h>(
         &'s self,
         haystack: &'h [u8],
@@ -157,9 +155,8 @@ impl<'p> Prepared<'p> {
         backward.pass_over(&scan_in(backward.prints), haystack, span, tally)
     }
 
-    /// Returns the leftmost match in a span of the haystack, as `Search::find_in` does. With
-    /// a changed array the answer may be another match, or [`Damaged`]. But a match lies in the span, is not empty, and
-    /// names one of the patterns.
+    /// Returns the leftmost match in a span of the haystack, as `Search::find_in` does. With a changed array the answer
+    /// may be another match, or [`Damaged`]. But a match lies in the span, is not empty, and names one of the patterns.
     pub fn find_in(&self, haystack: &[u8], span: Span) -> Result<Option<Match>, Damaged>
         requires { IsValidSpan haystack.now span }
         ensures prepared { ForPrepared self.now (λ search. IsOkAnd result
@@ -172,8 +169,7 @@ impl<'p> Prepared<'p> {
     }
 
     /// Like [`Prepared::find_in`], and counts each looked-up byte in the tally, as scanned: with any array, at most
-    /// three times the bytes of the span. The other bounds of
-    /// `Search::find_in_counted` hold too.
+    /// three times the bytes of the span. The other bounds of `Search::find_in_counted` hold too.
     pub fn find_in_counted(
         &self,
         haystack: &[u8],
@@ -261,8 +257,8 @@ impl<'s, 'p, 'h> Model for PreparedMatches<'s, 'p, 'h> {
 }
 
 impl<'s, 'p, 'h> PreparedMatches<'s, 'p, 'h> {
-    /// Returns the next match, as `Matches` does, or `None` after the last. With a changed array,
-    /// each match still begins after the previous one. After `None` or [`Damaged`] it always answers `None`.
+    /// Returns the next match, as `Matches` does, or `None` after the last. With a changed array, each match still
+    /// begins after the previous one. After `None` or [`Damaged`] it always answers `None`.
     pub fn next_match(&mut self) -> Result<Option<Match>, Damaged>
         ensures prepared { ForPrepared self.old.numbers (λ search. IsOkAnd result (λ answer.
             GivesMatch (matches_for search self.old) answer (matches_for search self.new))) }
@@ -277,8 +273,8 @@ impl<'s, 'p, 'h> PreparedMatches<'s, 'p, 'h> {
         self.next_counted(&mut Tally::new())
     }
 
-    /// Like `next_match`, and counts in the tally as `Matches::next_counted` does, with
-    /// the longest pattern length that the array gives, whatever its other numbers are.
+    /// Like `next_match`, and counts in the tally as `Matches::next_counted` does, with the longest pattern length that
+    /// the array gives, whatever its other numbers are.
     pub fn next_counted(&mut self, tally: &mut Tally) -> Result<Option<Match>, Damaged>
         ensures prepared { ForPrepared self.old.numbers (λ search. IsOkAnd result (λ answer.
             GivesMatch (matches_for search self.old) answer (matches_for search self.new))) }

@@ -160,8 +160,8 @@ impl<'s, 'p, 'h> Model for PreparedShortMatches<'s, 'p, 'h> {
 }
 
 impl<'s, 'p, 'h> PreparedShortMatches<'s, 'p, 'h> {
-    /// Returns the next match, as
-    /// [`PreparedMatches::next_match`](crate::prepared_search::PreparedMatches::next_match) does.
+    /// Returns the next match, as [`PreparedMatches::next_match`](crate::prepared_search::PreparedMatches::next_match)
+    /// does.
     #[inline(always)]
     pub fn next_match(&mut self) -> Result<Option<Match>, Damaged>
         ensures prepared { ForPrepared self.old.numbers (λ search. IsOkAnd result (λ answer.

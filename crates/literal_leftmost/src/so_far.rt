@@ -26,9 +26,9 @@ pub enum SoFar {
 
 impl<'p> Prepared<'p> {
     /// Returns what is known of the leftmost match from an offset on, where the haystack is the beginning of a text and
-    /// anything may follow, as `Search::find_so_far` does. With a changed array the
-    /// answer may be another one, or [`Damaged`]. But a match lies in the haystack from `at` on, is not empty, and
-    /// names one of the patterns, and a returned offset lies there too. `at` has to be at most the haystack's length.
+    /// anything may follow, as `Search::find_so_far` does. With a changed array the answer may be another one, or
+    /// [`Damaged`]. But a match lies in the haystack from `at` on, is not empty, and names one of the patterns, and a
+    /// returned offset lies there too. `at` has to be at most the haystack's length.
     pub fn find_so_far(&self, haystack: &[u8], at: usize) -> Result<SoFar, Damaged>
         requires { at ≤ length haystack.now }
         ensures whatever_follows { ForPrepared self.now (λ search. (more : List ℕ) → IsOkAnd result
@@ -42,8 +42,7 @@ impl<'p> Prepared<'p> {
     }
 
     /// Like [`Prepared::find_so_far`], and counts each looked-up byte in the tally, as scanned: with any array, at most
-    /// three times the bytes from `at` on. The other bounds of
-    /// `Search::find_so_far_counted` hold too.
+    /// three times the bytes from `at` on. The other bounds of `Search::find_so_far_counted` hold too.
     pub fn find_so_far_counted(
         &self,
         haystack: &[u8],

@@ -14,8 +14,7 @@ use literal_rows::classes::CLASSES_LEN;
 use literal_rows::walk::{ENDS, Table};
 use std::marker::Model;
 
-/// The automaton of an `Overlapping`, which it borrows, for a caller's own loops. Contracts see
-/// its tables.
+/// The automaton of an `Overlapping`, which it borrows, for a caller's own loops. Contracts see its tables.
 ///
 /// After a text it is in the state of the longest suffix of the text that is a prefix of a pattern (`IsStateAfter`). A
 /// loop begins with [`Automaton::start_state`], and appends a byte to the text with [`Automaton::next_state`]. If two

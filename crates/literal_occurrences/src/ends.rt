@@ -11,9 +11,9 @@ use literal_rows::array::SCAN_LEN;
 use literal_rows::damaged::Damaged;
 use literal_rows::walk::{Reached, Table, WalkEnd};
 
-/// The first offset in a span after its start at which a pattern ends, and the row there. The walk begins to read
-/// the span in the row at index `from`. If there is a scan for candidates, bytes are passed over by it. A pass
-/// reads at most twice as many bytes in vain as the walk before it read.
+/// The first offset in a span after its start at which a pattern ends, and the row there. The walk begins to read the
+/// span in the row at index `from`. If there is a scan for candidates, bytes are passed over by it. A pass reads at
+/// most twice as many bytes in vain as the walk before it read.
 #[inline(always)]
 pub fn next_end(
     table: &Table,

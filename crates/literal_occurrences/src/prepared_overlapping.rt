@@ -31,8 +31,8 @@ use literal_rows::damaged::Damaged;
 use literal_rows::walk::{Table, WalkEnd};
 use std::marker::Model;
 
-/// Searches for every occurrence by an array that `Overlapping::prepare` wrote. The
-/// array may be longer. Contracts see the array.
+/// Searches for every occurrence by an array that `Overlapping::prepare` wrote. The array may be longer. Contracts see
+/// the array.
 #[derive(Drop)]
 pub struct PreparedOverlapping<'p> {
     lent: LentTables<'p>,
@@ -98,9 +98,8 @@ impl<'p> PreparedOverlapping<'p> {
         is_checked(header.numbers, end)
     }
 
-    /// Returns the earliest end of an occurrence in a span of the haystack, as
-    /// `Overlapping::earliest_end` does. With a changed array the answer may be
-    /// another offset in the span, or [`Damaged`].
+    /// Returns the earliest end of an occurrence in a span of the haystack, as `Overlapping::earliest_end` does. With a
+    /// changed array the answer may be another offset in the span, or [`Damaged`].
     pub fn earliest_end(&self, haystack: &[u8], span: Span) -> Result<Option<usize>, Damaged>
         requires { IsValidSpan haystack.now span }
         ensures prepared { ForOverlapping self.now (λ search. IsOkAnd result
@@ -131,9 +130,8 @@ impl<'p> PreparedOverlapping<'p> {
         self.lent.earliest_end(haystack, span, tally)
     }
 
-    /// Returns the number of all occurrences in a span of the haystack, as
-    /// `Overlapping::count_overlapping_in` does. With a changed array the
-    /// answer may be another number, or [`Damaged`].
+    /// Returns the number of all occurrences in a span of the haystack, as `Overlapping::count_overlapping_in` does.
+    /// With a changed array the answer may be another number, or [`Damaged`].
     pub fn count_overlapping_in(&self, haystack: &[u8], span: Span) -> Result<u128, Damaged>
         requires { IsValidSpan haystack.now span }
         ensures { ForOverlapping self.now (λ search. IsOkAnd result
@@ -162,10 +160,9 @@ impl<'p> PreparedOverlapping<'p> {
         self.lent.count_in(haystack, span, tally)
     }
 
-    /// Returns an iterator over every occurrence in a span of the haystack, as
-    /// `Overlapping::find_overlapping_in` does. With a changed array it may
-    /// give other matches, or [`Damaged`]. But each match lies in the span, is not empty, and names one of the
-    /// patterns; the ends ascend, and at one end the pattern numbers.
+    /// Returns an iterator over every occurrence in a span of the haystack, as `Overlapping::find_overlapping_in` does.
+    /// With a changed array it may give other matches, or [`Damaged`]. But each match lies in the span, is not empty,
+    /// and names one of the patterns; the ends ascend, and at one end the pattern numbers.
     pub fn find_overlapping_in<'s, 'h>(
         &'s self,
         haystack: &'h [u8],
@@ -473,9 +470,9 @@ impl<'s, 'p, 'h> Model for PreparedOverlappingMatches<'s, 'p, 'h> {
 }
 
 impl<'s, 'p, 'h> PreparedOverlappingMatches<'s, 'p, 'h> {
-    /// Returns the next occurrence, as `OverlappingMatches` does, or `None` after the
-    /// last. With a changed array, each match still ends after the previous one, or at the same offset with a greater
-    /// pattern number. After `None` or [`Damaged`] it always answers `None`.
+    /// Returns the next occurrence, as `OverlappingMatches` does, or `None` after the last. With a changed array, each
+    /// match still ends after the previous one, or at the same offset with a greater pattern number. After `None` or
+    /// [`Damaged`] it always answers `None`.
     pub fn next_match(&mut self) -> Result<Option<Match>, Damaged>
         ensures prepared { ForOverlapping self.old.numbers (λ search. IsOkAnd result (λ answer.
             GivesOverlapping (matches_for search self.old) answer (matches_for search self.new))) }

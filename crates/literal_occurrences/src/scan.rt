@@ -61,8 +61,8 @@ pub fn nearest(table: &Table, by_scan: bool) -> usize
     BLOCKS_NEAR * FIRST_BLOCK.max(2 * longest)
 }
 
-/// Returns an offset in a span before which no pattern begins, by the scan for candidates that the numbers
-/// describe, if there is one. It is not inlined, so its caller keeps values in registers.
+/// Returns an offset in a span before which no pattern begins, by the scan for candidates that the numbers describe, if
+/// there is one. It is not inlined, so its caller keeps values in registers.
 #[inline(never)]
 pub fn pass_over(
     table: &Table,

@@ -1,5 +1,7 @@
 //! Search for any number of literals at once, with ASCII case kept or ignored. [`Search`] finds the leftmost match, or
-//! all matches that do not overlap. [`Overlapping`] finds every occurrence.
+//! all matches that do not overlap; [`Overlapping`] finds every occurrence, and [`WholeWords`] whole words alone. They
+//! own their patterns, and search by `literal_leftmost`, `literal_occurrences` and `literal_words`, whose public types
+//! are exported here too. Begin to read with [`Search`], and with `specs/SearchValue.antt` of `literal_leftmost`.
 #![tactic(auto)]
 
 ghost use Rattle.std.specs.Prelude.{◌≡◌, ◌+◌, ◌-◌, ◌^◌, ◌<◌, ◌++◌, ◌∷◌, [], length, map, sum_by, IfErr, IfOk};

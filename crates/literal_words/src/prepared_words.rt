@@ -22,11 +22,10 @@ use literal_leftmost::prepared_search::Prepared;
 use literal_rows::damaged::Damaged;
 use std::marker::Model;
 
-/// Searches for whole words by an array that `Search::prepare` wrote. It answers as
-/// `WholeWords` does. The search that wrote the array has to have [`MatchKind::LeftmostLongest`],
-/// whatever the match kind of the words is. With a changed array the answer may be another match, none, or
-/// [`Damaged`]; but each match lies in the span, is not empty, and names one of the patterns. Contracts see the match
-/// kind, the array, and which bytes are word bytes.
+/// Searches for whole words by an array that `Search::prepare` wrote. It answers as `WholeWords` does. The search that
+/// wrote the array has to have [`MatchKind::LeftmostLongest`], whatever the match kind of the words is. With a changed
+/// array the answer may be another match, none, or [`Damaged`]; but each match lies in the span, is not empty, and
+/// names one of the patterns. Contracts see the match kind, the array, and which bytes are word bytes.
 ///
 /// ```rust
 /// let patterns = [b"york".as_slice()];
@@ -75,8 +74,7 @@ impl<'p> PreparedWords<'p> {
         })
     }
 
-    /// Returns the leftmost whole word in a span of the haystack, as
-    /// `WholeWords::find_in` does.
+    /// Returns the leftmost whole word in a span of the haystack, as `WholeWords::find_in` does.
     pub fn find_in(&self, haystack: &[u8], span: Span) -> Result<Option<Match>, Damaged>
         requires { IsValidSpan haystack.now span }
         ensures prepared { ForWholeWords self.now (λ words. IsOkAnd result (IsFirstAlone words haystack.now span)) }
@@ -88,8 +86,7 @@ impl<'p> PreparedWords<'p> {
     }
 
     /// Like [`PreparedWords::find_in`], and counts each looked-up byte in the tally, as scanned. With any array, the
-    /// bounds are those of `WholeWords::find_in_counted`, with the longest
-    /// pattern length that the array gives.
+    /// bounds are those of `WholeWords::find_in_counted`, with the longest pattern length that the array gives.
     pub fn find_in_counted(
         &self,
         haystack: &[u8],
@@ -120,8 +117,7 @@ impl<'p> PreparedWords<'p> {
         self.prepared.first_candidate_in(haystack, span)
     }
 
-    /// Returns an iterator over all whole words in a span of the haystack, as
-    /// `WholeWords::find_iter_in` does.
+    /// Returns an iterator over all whole words in a span of the haystack, as `WholeWords::find_iter_in` does.
     pub fn find_iter_in<'s, 'h>(
         &'s self,
         haystack: &'h [u8],
@@ -243,9 +239,8 @@ impl<'s, 'p, 'h> Model for PreparedWordMatches<'s, 'p, 'h> {
 }
 
 impl<'s, 'p, 'h> PreparedWordMatches<'s, 'p, 'h> {
-    /// Returns the next whole word, as `WholeWordMatches` does, or `None` after the last.
-    /// With a changed array, each match still begins after the previous one. After `None` or [`Damaged`] it always
-    /// answers `None`.
+    /// Returns the next whole word, as `WholeWordMatches` does, or `None` after the last. With a changed array, each
+    /// match still begins after the previous one. After `None` or [`Damaged`] it always answers `None`.
     pub fn next_match(&mut self) -> Result<Option<Match>, Damaged>
         ensures prepared { ForWholeWords self.old.words (λ words. IsOkAnd result (λ answer.
             GivesWholeWord (word_matches_by self.old words) answer (word_matches_by self.new words))) }
@@ -263,8 +258,7 @@ impl<'s, 'p, 'h> PreparedWordMatches<'s, 'p, 'h> {
         self.next_counted(&mut Tally::new())
     }
 
-    /// Like `next_match`, and counts in the tally as
-    /// `WholeWordMatches::next_counted` does.
+    /// Like `next_match`, and counts in the tally as `WholeWordMatches::next_counted` does.
     pub fn next_counted(&mut self, tally: &mut Tally) -> Result<Option<Match>, Damaged>
         ensures prepared { ForWholeWords self.old.words (λ words. IsOkAnd result (λ answer.
             GivesWholeWord (word_matches_by self.old words) answer (word_matches_by self.new words))) }

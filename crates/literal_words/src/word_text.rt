@@ -7,8 +7,8 @@ ghost use Rattle.literal_words.specs.Inside.WholeWords.{AreSidesOf};
 use std::alloc::{AllocError, Global};
 use std::marker::Model;
 
-/// A text for `WholeWords::find_text`, and for each of its characters whether it is a word character. Contracts see
-/// the bytes of the text.
+/// A text for `WholeWords::find_text`, and for each of its characters whether it is a word character. Contracts see the
+/// bytes of the text.
 ///
 /// An ASCII character is a word character if its byte is a word byte of the search. Any other character counts as the
 /// letter `a` if [`char::is_alphanumeric`] holds, and otherwise as a space.
