@@ -40,7 +40,7 @@ MAKERS = (
     "WholeWords::find_text_in", "WordMatchesBySidesIterator::next",
     "Overlapping::earliest_end", "Overlapping::count_overlapping_in", "OverlappingMatchesIterator::next",
     "OverlappingStreamMatchesIterator::next",
-    "Prepared::first_candidate_in", "Prepared::find_in",
+    "Prepared::first_candidate_in", "Prepared::count_of_byte_in", "Prepared::find_in",
     "PreparedMatches::next_match", "PreparedShortMatches::next_match",
     "PreparedOverlapping::earliest_end", "PreparedOverlapping::count_overlapping_in",
     "PreparedOverlappingMatches::next_match", "PreparedOverlapping::walk",
@@ -55,7 +55,7 @@ TICKS = {
     RABIN_KARP: {"Rolling::push": ("tick_hashed", "ebc0e88b6d30"), "Rolling::roll": ("tick_hashed", "5b80638e8bc9")},
     ENTRIES: {"BucketEntries::entry": ("tick_entries", "95314473946b")},
     "crates/literal_fingerprints/src/lanes.rt": {
-        "lanes::load": ("tick_scanned", "81399e5b4db7"), "lanes::load_rest": ("tick_scanned", "6704b36834f4"),
+        "lanes::load": ("tick_scanned", "81399e5b4db7"), "lanes::load_rest": ("tick_scanned", "5dc63c131184"),
         "lanes::byte_at": ("tick_scanned", "20400241e889"),
     },
     "crates/literal_fingerprints/src/wide.rt": {"wide::load_wide": ("tick_scanned", "34f300c94c73")},

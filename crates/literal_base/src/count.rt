@@ -6,8 +6,9 @@ ghost use Rattle.literal_base.specs.Counts.{Counts, none_yet, plus};
 use std::marker::Model;
 
 /// Five counts of steps: bytes hashed, bucket entries read, patterns compared, bytes scanned, and offsets tried.
-/// Contracts see them as numbers that never overflow. At run time a tally takes no memory and a tick no time, so no
-/// code can read a tally.
+/// Contracts see them as numbers that never overflow. A byte that a vector loads beside those that are asked for, and
+/// whose lane is dropped, is not scanned. At run time a tally takes no memory and a tick no time, so no code can read a
+/// tally.
 #[derive(Drop)]
 pub struct Tally {
     ghost counts: { Counts },

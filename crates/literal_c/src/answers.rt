@@ -150,6 +150,9 @@ pub fn count_in(search: &Prepared<'_>, haystack: &[u8], span: Span) -> Result<us
         start,
         end: span.end,
     };
+    if let Some(count) = search.count_of_byte_in(haystack, rest) {
+        return Ok(count);
+    }
     count_from(search, haystack, rest)
 }
 

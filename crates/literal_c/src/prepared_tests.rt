@@ -101,6 +101,19 @@ fn finds_by_an_array(rt: HostRuntime) -> Result<(), Fail> {
     Ok(())
 }
 
+/// A count of one byte takes no iteration.
+#[test]
+fn counts_one_byte_by_an_array(rt: HostRuntime) -> Result<(), Fail> {
+    let (alloc, kind) = (rt.alloc(), LITERAL_LEFTMOST_FIRST);
+    let (mut needed, mut count) = (0, 0);
+    let mut prepared = vec![in alloc; 0; 1000]?;
+    let status = literal_prepare(alloc, kind, 0, b"e", &[1], &mut prepared, &mut needed);
+    assert!(rt; status == LITERAL_OK);
+    assert!(rt; literal_count_in(&prepared, TEXT, 0, 51, &mut count) == LITERAL_OK && count == 6);
+    assert!(rt; literal_count_in(&prepared, TEXT, 14, 49, &mut count) == LITERAL_OK && count == 4);
+    Ok(())
+}
+
 #[test]
 fn finds_pages_by_an_array(rt: HostRuntime) -> Result<(), Fail> {
     let prepared = search_for_words(rt.alloc(), LITERAL_LEFTMOST_LONGEST, 1)?;

@@ -1,4 +1,5 @@
 pub mod Buckets
+pub mod ByteCounts
 pub mod Far
 pub mod Halves
 pub mod Hits

@@ -52,22 +52,12 @@ HasPair pair haystack at = HasBytes pair haystack (at + first_offset pair)
 abbrev pub HasPairOfEarlier : RarePair → List ℕ → ℕ → Type 0
 HasPairOfEarlier pair haystack start = (k : ℕ) × (k < first_offset pair) × HasBytes pair haystack (start + k)
 
--- an offset at which a scan of the span may stop by the second byte alone: where this byte is as in a pattern that
--- begins there, the start of the span if it is there as in a pattern that begins earlier, and the end of the span
-abbrev pub SecondMayStop : RarePair → List ℕ → Span → ℕ → Type 0
-SecondMayStop pair haystack span place =
-    IsRare pair.second (slice_index haystack (place + second_offset pair))
-    ⊎ (((place ≡ span.start)
-    × ((k : ℕ) × (k < second_offset pair) × IsRare pair.second (slice_index haystack (span.start + k))))
-    ⊎ (place ≡ span.end))
-
 -- an offset at which a scan of the span may stop: at a pair, at the start of the span if there is a pair of a pattern
--- that begins earlier, or by the second byte alone if fewer than 16 bytes of the span follow the offset of this byte
+-- that begins earlier, and at the end of the span
 abbrev pub PairMayStop : RarePair → List ℕ → Span → ℕ → Type 0
 PairMayStop pair haystack span place =
     HasPair pair haystack place
-    ⊎ (((place ≡ span.start) × HasPairOfEarlier pair haystack span.start)
-    ⊎ ((span.end < place + second_offset pair + 16) × SecondMayStop pair haystack span place))
+    ⊎ (((place ≡ span.start) × HasPairOfEarlier pair haystack span.start) ⊎ (place ≡ span.end))
 
 -- each text that begins with the pattern has the bytes of the pair
 pub record IsPairOf (pair : RarePair) (ignore_case : Bool) (pattern : List ℕ) : Type 0 where

@@ -1,5 +1,5 @@
 -- Patterns of at most 16 bytes.
-use Rattle.std.specs.Prelude.{◌≡◌, ◌∷◌, [], ℕ, ◌<◌, ◌≤◌, Bool, List, drop, false, length, slice_index, take}
+use Rattle.std.specs.Prelude.{◌≡◌, ◌==◌, ◌∷◌, [], ℕ, ◌<◌, ◌≤◌, Bool, List, drop, false, length, slice_index, take}
 use Rattle.literal_fingerprints.specs.declared.short.ShortPattern.{ShortPattern}
 
 -- this is the pattern
@@ -19,3 +19,7 @@ pub record IsOnly (short : ShortPattern) (ignore_case : Bool) (patterns : List (
   pub is : IsShort short pattern
   pub only : patterns ≡ pattern ∷ []
   pub with_case : ignore_case ≡ false
+
+-- whether a byte is this one
+abbrev pub is_byte : ℕ → ℕ → Bool
+is_byte byte other = other == byte

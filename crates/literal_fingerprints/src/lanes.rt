@@ -10,6 +10,12 @@ use std::simd::prelude::*;
 /// The number of lanes of a vector.
 pub const LANES: usize = 16;
 
+/// The number of each lane, then as often a number for which a shuffle gives 0.
+const PLACES: [u8; 2 * LANES] = [
+    0, 1, 2, 3, 4, 5, 6, 7, 8, 9, 10, 11, 12, 13, 14, 15, 255, 255, 255, 255, 255, 255, 255, 255, 255, 255, 255, 255,
+    255, 255, 255, 255,
+];
+
 /// The bytes of a haystack from an offset on. Each counts as scanned.
 #[inline(always)]
 pub fn load(haystack: &[u8], at: usize, tally: &mut Tally) -> u8x16
@@ -23,7 +29,8 @@ pub fn load(haystack: &[u8], at: usize, tally: &mut Tally) -> u8x16
     u8x16::from_slice(&haystack[at..])
 }
 
-/// The bytes of a haystack from an offset to an end, fewer than 16, followed by zeros. Each byte counts as scanned.
+/// The bytes of a haystack from an offset to an end, fewer than 16, followed by zeros. Each byte counts as scanned. The
+/// bytes before the offset that are loaded with them are dropped, and decide nothing.
 #[inline(always)]
 pub fn load_rest(haystack: &[u8], at: usize, end: usize, tally: &mut Tally) -> u8x16
     requires ordered { at ≤ end }
@@ -35,9 +42,24 @@ pub fn load_rest(haystack: &[u8], at: usize, end: usize, tally: &mut Tally) -> u
     for _ in at..end {
         tally.tick_scanned();
     }
-    let mut bytes = [0; LANES];
-    bytes[..end - at].copy_from_slice(&haystack[at..end]);
-    u8x16::from_slice(&bytes)
+    if end < LANES {
+        let mut bytes = [0; LANES];
+        bytes[..end - at].copy_from_slice(&haystack[at..end]);
+        return u8x16::from_slice(&bytes);
+    }
+    after_first(
+        LANES - (end - at),
+        u8x16::from_slice(&haystack[end - LANES..]),
+    )
+}
+
+/// The lanes after the first `lanes` ones, followed by zeros.
+#[inline(always)]
+fn after_first(lanes: usize, all: u8x16) -> u8x16
+    requires { lanes ≤ 16 }
+    ensures { HasLanes result (λ k. slice_index all (lanes + k)) }
+{
+    all.swizzle_dyn(u8x16::from_slice(&PLACES[lanes..]))
 }
 
 /// The byte of a haystack at an offset. It counts as scanned.

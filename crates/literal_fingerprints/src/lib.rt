@@ -4,6 +4,7 @@
 
 mod both_nibbles;
 mod buckets;
+mod byte_count;
 mod candidates;
 mod fingerprints;
 mod lanes;
@@ -14,6 +15,7 @@ mod pair;
 mod short;
 mod wide;
 
+pub use byte_count::count_byte;
 pub use candidates::CandidateScan;
 pub use fingerprints::{BYTES, Fingerprints};
 pub use pair::{PAIR_BYTES, RareByte, RarePair};

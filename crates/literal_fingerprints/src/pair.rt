@@ -2,12 +2,12 @@
 ghost use Rattle.std.specs.Prelude.{◌≡◌, ℕ, ◌+◌, ◌-◌, ◌*◌, ◌<◌, ◌≤◌, List, MatchOption};
 ghost use Rattle.std.specs.Prelude.{◌≢◌, bit_and, if◌then◌else◌, length, max, min, nat_lt, slice_index, true};
 ghost use Rattle.literal_base.specs.Occurs.{IsValidSpan, same_byte};
-ghost use Rattle.literal_fingerprints.specs.Inside.Hits.{hit, pair_hit};
+ghost use Rattle.literal_fingerprints.specs.Inside.Hits.{NoneHit, pair_hit};
 ghost use Rattle.literal_fingerprints.specs.Inside.Lanes.{HasBack, HasLanes, HasWide};
-ghost use Rattle.literal_fingerprints.specs.RarePairs.{IsPairOf, IsRare, NoPairBegins, PairMayStop, SecondMayStop};
-ghost use Rattle.literal_fingerprints.specs.RarePairs.{has_between, pair_in, second_offset};
+ghost use Rattle.literal_fingerprints.specs.RarePairs.{IsPairOf, IsRare, NoPairBegins, PairMayStop};
+ghost use Rattle.literal_fingerprints.specs.RarePairs.{has_between, pair_in};
 
-use crate::lanes::{LANES, both, byte_at, load, shifted, wanted, zeros_before};
+use crate::lanes::{LANES, both, load, load_rest, shifted, wanted, zeros_before};
 use crate::nibbles::other_case;
 use crate::wide::{
     WIDE, back_half, both_wide, load_wide, shifted_wide, twice, wanted_wide, zeros_before_wide,
@@ -130,9 +130,8 @@ impl RarePair {
 
     /// Returns an offset of the span, or its end, before which no pattern with this pair begins that lies whole in the
     /// span. The span has to be valid. The scan stops at the first offset at which the haystack has the bytes of the
-    /// pair, or before. Each byte is read once: 16 at a time, and 32 at a time after the first 16. The last bytes,
-    /// fewer than 16, are compared only with the second byte. Each distance has its own loop, which shifts by a
-    /// constant.
+    /// pair, or before. Each byte is read once: 16 at a time, and 32 at a time after the first 16. Each distance has
+    /// its own loop, which shifts by a constant.
     pub fn next(&self, haystack: &[u8], span: Span, tally: &mut Tally) -> usize
         requires { IsValidSpan haystack.now span }
         ensures inside { (span.start ≤ result) × (result ≤ span.end) }
@@ -193,7 +192,15 @@ impl RarePair {
     {
         let behind = (self.offset as usize).min(LAST) + apart;
         if span.end - span.start < LANES {
-            return self.scan_rest(second_mask, behind, haystack, span.start, span, tally);
+            return self.scan_short(
+                first_mask,
+                second_mask,
+                by_three,
+                apart,
+                haystack,
+                span,
+                tally,
+            );
         }
         let here = load(haystack, span.start, tally);
         let hits = self.pairs(first_mask, second_mask, by_three, apart, here, here);
@@ -214,51 +221,109 @@ impl RarePair {
             before = here;
             at += WIDE;
         }
+        let before = back_half(before);
         if span.end - at < LANES {
-            return self.scan_rest(second_mask, behind, haystack, at, span, tally);
+            return self.scan_last(
+                first_mask,
+                second_mask,
+                by_three,
+                apart,
+                before,
+                haystack,
+                at,
+                span,
+                tally,
+            );
         }
         let here = load(haystack, at, tally);
-        let before = back_half(before);
         let hits = self.pairs(first_mask, second_mask, by_three, apart, before, here);
         let passed = zeros_before(hits);
         if passed < LANES {
             return at + passed - behind;
         }
-        self.scan_rest(second_mask, behind, haystack, at + LANES, span, tally)
+        self.scan_last(
+            first_mask,
+            second_mask,
+            by_three,
+            apart,
+            here,
+            haystack,
+            at + LANES,
+            span,
+            tally,
+        )
     }
 
-    /// Compares the bytes of a span from an offset on with the second byte of the pair, which is at the offset `behind`
-    /// of a pattern.
-    fn scan_rest(
+    /// The same in a span of fewer than 16 bytes.
+    #[inline(always)]
+    fn scan_short(
         &self,
+        first_mask: u8,
         second_mask: u8,
-        behind: usize,
+        by_three: bool,
+        apart: usize,
+        haystack: &[u8],
+        span: Span,
+        tally: &mut Tally,
+    ) -> usize
+        requires valid { IsValidSpan haystack.now span }
+        requires first { first_mask ≡ self.now.first.mask }
+        requires second { second_mask ≡ self.now.second.mask }
+        requires three { by_three ≡ has_between self.now }
+        requires apart { apart ≡ min self.now.apart 3 }
+        requires few { span.end < span.start + 16 }
+        ensures inside { (span.start ≤ result) × (result ≤ span.end) }
+        ensures passed { NoPairBegins self.now haystack.now span result }
+        ensures stops { PairMayStop self.now haystack.now span result }
+        ensures ticks { tally.new
+            ≡ record tally.old { scanned = tally.old.scanned + (span.end - span.start) } }
+    {
+        let here = load_rest(haystack, span.start, span.end, tally);
+        let hits = self.pairs(first_mask, second_mask, by_three, apart, here, here);
+        let passed = zeros_before(without_first(apart, hits));
+        if passed < span.end - span.start {
+            let behind = (self.offset as usize).min(LAST) + apart;
+            return span.start + passed.saturating_sub(behind);
+        }
+        span.end
+    }
+
+    /// Scans the last bytes of a span, fewer than 16, after the 16 bytes before them. No pair ends before them.
+    #[inline(always)]
+    fn scan_last(
+        &self,
+        first_mask: u8,
+        second_mask: u8,
+        by_three: bool,
+        apart: usize,
+        before: u8x16,
         haystack: &[u8],
         from: usize,
         span: Span,
         tally: &mut Tally,
     ) -> usize
-        requires second { second_mask ≡ self.now.second.mask }
-        requires behind { behind ≡ second_offset self.now }
         requires valid { IsValidSpan haystack.now span }
-        requires after { span.start ≤ from }
+        requires first { first_mask ≡ self.now.first.mask }
+        requires second { second_mask ≡ self.now.second.mask }
+        requires three { by_three ≡ has_between self.now }
+        requires apart { apart ≡ min self.now.apart 3 }
+        requires after { span.start + 16 ≤ from }
         requires inside { from ≤ span.end }
+        requires few { span.end < from + 16 }
+        requires before { HasLanes before (λ k. slice_index haystack.now (from + k - 16)) }
+        requires none { NoneHit self.now first_mask second_mask by_three apart haystack.now span.start from }
         ensures inside { (span.start ≤ result) × (result ≤ span.end) }
-        ensures stops { SecondMayStop self.now haystack.now span result }
-        ensures none { (place : ℕ) → span.start ≤ place → place < result → from ≤ place + behind
-            → place + behind < span.end
-            → hit self.now.second.byte second_mask (slice_index haystack.now (place + behind)) ≡ 0 }
-        ensures far { from ≤ result + behind }
-        ensures others { tally.new ≡ record tally.old { scanned = tally.new.scanned } }
-        ensures once { tally.new.scanned ≤ tally.old.scanned + (span.end - from) }
-        ensures read { tally.old.scanned + result ≤ tally.new.scanned + from }
-        ensures counted { tally.new.scanned + from ≤ tally.old.scanned + result + behind + 1 }
+        ensures passed { NoPairBegins self.now haystack.now span result }
+        ensures stops { PairMayStop self.now haystack.now span result }
+        ensures far { from ≤ result + 5 }
+        ensures ticks { tally.new ≡ record tally.old { scanned = tally.old.scanned + (span.end - from) } }
     {
-        for at in from..span.end {
-            let byte = byte_at(haystack, at, tally);
-            if byte | second_mask == self.second.byte {
-                return at.saturating_sub(behind).max(span.start);
-            }
+        let here = load_rest(haystack, from, span.end, tally);
+        let hits = self.pairs(first_mask, second_mask, by_three, apart, before, here);
+        let passed = zeros_before(hits);
+        if passed < span.end - from {
+            let behind = (self.offset as usize).min(LAST) + apart;
+            return from + passed - behind;
         }
         span.end
     }

@@ -1,6 +1,7 @@
 -- Lemmas that several proofs share, by topic.
 pub mod BackTables
 pub mod Backward
+pub mod ByteMatches
 pub mod Cursor
 pub mod Gaps
 pub mod GreedyIn

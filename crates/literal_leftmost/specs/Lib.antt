@@ -1,4 +1,5 @@
 pub mod At
+pub mod Counted
 pub mod Inside
 pub mod LookUps
 pub mod MatchesValue

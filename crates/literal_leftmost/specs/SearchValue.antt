@@ -7,7 +7,6 @@ use Rattle.literal_base.specs.Occurs.{NothingOccurs}
 use Rattle.literal_base.specs.Query.{Query}
 use Rattle.literal_base.specs.declared.packed.MatchKind.{MatchKind}
 use Rattle.literal_base.specs.declared.search.Span.{Span}
-use Rattle.literal_leftmost.specs.declared.leftmost.TheConstants.{FIRST}
 pub use Rattle.literal_rows.specs.Patterns.{CanBeKept, HoldsInClasses, NeedFewReversed, NeedFewStates}
 unfoldable pub use Rattle.literal_rows.specs.Patterns.{NeedTooManyReversed, NeedTooManyStates}
 pub use Rattle.literal_rows.specs.Patterns.{first_prefix, is_in_patterns, longest_of, reversed, unshadowed}
@@ -40,12 +39,13 @@ pub record ScansThrice (span : Span) (old new : Counts) : Type 0 where
 abbrev pub looked_by : ℕ → Span → ℕ → ℕ
 looked_by longest span known = min (known + min (known - span.start) (longest - 1)) span.end
 
--- the length of each of the four parts of the first block of a search
+-- half the length of the longest pattern plus three, but at least 16: a search for one match first goes through four
+-- parts of this length
 abbrev pub first_part : ℕ → ℕ
-first_part longest = max FIRST (longest / 2 + 3)
+first_part longest = max 16 (longest / 2 + 3)
 
 -- the bytes that a search for the leftmost match looks up: at least those of the span if there is no match, otherwise
--- at least those up to its end, and at most eleven times those before it plus 36 times the first part
+-- at least those up to its end, and at most eleven times those before it plus 36 times `first_part`
 abbrev pub LooksFor : ℕ → Span → Option MatchValue → ℕ → ℕ → Type 0
 LooksFor longest span None old new = old + (span.end - span.start) ≤ new
 LooksFor longest span (Some found) old new =

@@ -1,28 +1,25 @@
 //! Backward walks through a span, by an automaton of the reversed patterns. Lent numbers may be wrong: if one points
 //! outside the rows, the answer is `Damaged`.
-ghost use Rattle.std.specs.Prelude.{◌≡◌, ◌+◌, ◌-◌, ◌*◌, ◌<◌, ◌≤◌, ◌^◌, ◌%◌, length, max, min};
-ghost use Rattle.std.specs.Prelude.{ℕ, IfOk, IfSome, List, MatchOption, None, false, slice_index};
-ghost use Rattle.std.specs.Result.{IsOkAnd};
 ghost use Rattle.literal_base.specs.Leftmost.{IsLeftmost, IsLeftmostMatch};
 ghost use Rattle.literal_base.specs.Occurs.{IsValidSpan, between};
-ghost use Rattle.literal_base.specs.declared.search.Span.{Span};
+ghost use Rattle.literal_leftmost.specs.Inside.Backward.{AreListed, AreMarked, AreMarks, ForBackward, HasLookedAhead};
+ghost use Rattle.literal_leftmost.specs.Inside.Backward.{IsBlock, IsBlockMarked, IsMark, IsMatchBy, IsPlaced, IsSafe};
+ghost use Rattle.literal_leftmost.specs.Inside.Backward.{NoneFrom, named_by, offset_by, room_for};
+ghost use Rattle.literal_leftmost.specs.Inside.Leftmost.{HasBytes, IsLimit, IsPart};
 ghost use Rattle.literal_leftmost.specs.SearchValue.{ScansThrice, looked_by};
-ghost use Rattle.literal_leftmost.specs.Inside.Backward.{AreListed, AreMarked, AreMarks, ForBackward, IsBlock};
-ghost use Rattle.literal_leftmost.specs.Inside.Backward.{HasLookedAhead, IsBlockMarked};
-ghost use Rattle.literal_leftmost.specs.Inside.Backward.{IsMark, IsMatchBy, IsPlaced, IsSafe, NoneFrom, named_by};
-ghost use Rattle.literal_leftmost.specs.Inside.Backward.{offset_by, room_for};
-ghost use Rattle.literal_leftmost.specs.Inside.Leftmost.{AreLanes, AreMarksAfter, AreSteps, HasBytes, HaveRows};
-ghost use Rattle.literal_leftmost.specs.Inside.Leftmost.{IsLimit, IsPart};
+ghost use Rattle.literal_leftmost.specs.declared.lanes.TheConstants.{OVERLAP};
 ghost use Rattle.literal_leftmost.specs.declared.backward.Continuation.{Continuation};
 ghost use Rattle.literal_leftmost.specs.declared.backward.TheConstants.{MARKED};
+ghost use Rattle.std.specs.Prelude.{◌*◌, ◌+◌, ◌-◌, ◌<◌, ◌^◌, ◌≡◌, ◌≤◌, IfOk, IfSome, List, MatchOption, None, length};
+ghost use Rattle.std.specs.Prelude.{max, min, slice_index, ℕ};
+ghost use Rattle.std.specs.Result.{IsOkAnd};
 
-use crate::lanes::{Block, Lanes, OVERLAP, Passed};
+use crate::unmarked::pass_unmarked;
 use literal_base::count::Tally;
 use literal_base::{Match, Span};
 use literal_rows::array::scan_in;
 use literal_rows::damaged::Damaged;
 use literal_rows::walk::{ENDS, Table};
-use std::simd::prelude::*;
 
 /// The least length of a block, unless the span is shorter.
 pub const LEAST: usize = 1024;
@@ -39,9 +36,6 @@ pub const FAR: usize = 18;
 
 /// The least length of the four parts of a marked block.
 const LEAST_MARKED: usize = 6;
-
-/// How many marks are read at once.
-const LANES: usize = 16;
 
 /// The parts of a search that a backward walk reads.
 #[derive(Clone, Copy)]
@@ -341,201 +335,6 @@ impl<'t> Backward<'t> {
         Ok(())
     }
 
-    /// Marks the offsets that four walks read last, one in each of four adjacent parts. Returns the rows of the walks.
-    #[inline(always)]
-    fn mark_last(
-        &self,
-        part: usize,
-        passed: Passed,
-        limit: usize,
-        marks: &mut [u32],
-    ) -> Result<Lanes, Damaged>
-        requires limit { IsLimit self.now limit }
-        requires some { 0 < passed.left }
-        requires left { passed.left ≤ part }
-        requires fits { HaveRows (2 ^ 32) passed.codes }
-        requires room { 4 * part ≤ length marks.old }
-        ensures rows { IfOk result (HaveRows limit) }
-        ensures lanes { ForBackward self.now (λ tables. (haystack : List ℕ) (span : Span) (at : ℕ)
-            → AreSteps tables haystack span at part (passed.left - 1) passed.codes
-            → IsOkAnd result (AreLanes tables haystack span at part (passed.left - 1))) }
-        ensures marks { ForBackward self.now (λ tables. (haystack : List ℕ) (span : Span) (at : ℕ)
-            → AreSteps tables haystack span at part (passed.left - 1) passed.codes
-            → AreMarksAfter tables haystack span.end marks.old at part passed.left
-            → AreMarksAfter tables haystack span.end marks.new at part (passed.left - 1)) }
-        ensures long { length marks.new ≡ length marks.old }
-    {
-        let last = passed.left - 1;
-        let (first, second) = (passed.codes.first as u32, passed.codes.second as u32);
-        let (third, fourth) = (passed.codes.third as u32, passed.codes.fourth as u32);
-        marks[last] = first;
-        marks[last + part] = second;
-        marks[last + 2 * part] = third;
-        marks[last + 3 * part] = fourth;
-        let lanes = Lanes {
-            first: (first % ENDS) as usize,
-            second: (second % ENDS) as usize,
-            third: (third % ENDS) as usize,
-            fourth: (fourth % ENDS) as usize,
-        };
-        if !lanes.are_rows(limit) {
-            return Err(Damaged);
-        }
-        Ok(lanes)
-    }
-
-    /// Marks the remaining offsets of four adjacent parts, by four walks at once. The most frequent part length has a
-    /// loop of its own.
-    #[inline(never)]
-    fn mark_in_four(
-        &self,
-        classes: &[u8; 256],
-        haystack: &[u8],
-        span: Span,
-        at: usize,
-        part: usize,
-        left: usize,
-        lanes: Lanes,
-        limit: usize,
-        marks: &mut [u32],
-        tally: &mut Tally,
-    ) -> Result<(), Damaged>
-        requires safe { IsSafe self.now }
-        requires same { HasBytes self.now classes.now }
-        requires limit { IsLimit self.now limit }
-        requires rows { HaveRows limit lanes }
-        requires valid { IsValidSpan haystack.now span }
-        requires inside { at + 4 * part ≤ span.end }
-        requires left { left ≤ part }
-        requires room { 4 * part ≤ length marks.old }
-        ensures marks { ForBackward self.now (λ tables. AreLanes tables haystack.now span at part left lanes
-            → AreMarksAfter tables haystack.now span.end marks.old at part left
-            → IsOkAnd result (λ _. AreMarks tables haystack.now span.end marks.new at at (at + 4 * part))) }
-        ensures others { tally.new ≡ record tally.old { scanned = tally.new.scanned } }
-        ensures most { tally.new.scanned ≤ tally.old.scanned + 4 * left }
-        ensures all { IfOk result (λ _. tally.new.scanned ≡ tally.old.scanned + 4 * left) }
-    {
-        if part == MARKED {
-            return self.mark_parts(
-                classes, haystack, span, at, MARKED, left, lanes, limit, marks, tally,
-            );
-        }
-        self.mark_parts(
-            classes, haystack, span, at, part, left, lanes, limit, marks, tally,
-        )
-    }
-
-    /// Does the work of [`Backward::mark_in_four`] in one loop.
-    #[inline(always)]
-    pub(crate) fn mark_parts(
-        &self,
-        classes: &[u8; 256],
-        haystack: &[u8],
-        span: Span,
-        at: usize,
-        part: usize,
-        left: usize,
-        lanes: Lanes,
-        limit: usize,
-        marks: &mut [u32],
-        tally: &mut Tally,
-    ) -> Result<(), Damaged>
-        requires safe { IsSafe self.now }
-        requires same { HasBytes self.now classes.now }
-        requires limit { IsLimit self.now limit }
-        requires rows { HaveRows limit lanes }
-        requires valid { IsValidSpan haystack.now span }
-        requires inside { at + 4 * part ≤ span.end }
-        requires left { left ≤ part }
-        requires room { 4 * part ≤ length marks.old }
-        ensures marks { ForBackward self.now (λ tables. AreLanes tables haystack.now span at part left lanes
-            → AreMarksAfter tables haystack.now span.end marks.old at part left
-            → IsOkAnd result (λ _. AreMarks tables haystack.now span.end marks.new at at (at + 4 * part))) }
-        ensures others { tally.new ≡ record tally.old { scanned = tally.new.scanned } }
-        ensures most { tally.new.scanned ≤ tally.old.scanned + 4 * left }
-        ensures all { IfOk result (λ _. tally.new.scanned ≡ tally.old.scanned + 4 * left) }
-    {
-        let mut now = lanes;
-        let table = self.table; // (a copy, which writes to the marks do not change)
-        for step in (0..left).rev() {
-            let here = at + step;
-            let (two, three, four) = (here + part, here + 2 * part, here + 3 * part);
-            let first = table.code_by(classes, now.first, haystack, here, tally);
-            marks[step] = first;
-            let second = table.code_by(classes, now.second, haystack, two, tally);
-            marks[step + part] = second;
-            let third = table.code_by(classes, now.third, haystack, three, tally);
-            marks[step + 2 * part] = third;
-            let fourth = table.code_by(classes, now.fourth, haystack, four, tally);
-            marks[step + 3 * part] = fourth;
-            now = Lanes {
-                first: (first % ENDS) as usize,
-                second: (second % ENDS) as usize,
-                third: (third % ENDS) as usize,
-                fourth: (fourth % ENDS) as usize,
-            };
-            if !now.are_rows(limit) {
-                return Err(Damaged);
-            }
-        }
-        Ok(())
-    }
-
-    /// Marks the block of four parts that begins at an offset, unless no pattern begins in it.
-    fn mark_four_parts(
-        &self,
-        haystack: &[u8],
-        span: Span,
-        from: usize,
-        part: usize,
-        numbers: &mut [u32],
-        tally: &mut Tally,
-    ) -> Result<Marks, Damaged>
-        requires safe { IsSafe self.now }
-        requires valid { IsValidSpan haystack.now span }
-        requires after { span.start ≤ from }
-        requires inside { from + 4 * part + self.now.table.longest ≤ span.end }
-        requires long { self.now.table.longest + 4 ≤ part }
-        requires some { OVERLAP ≤ 4 * part }
-        requires room { 4 * part ≤ length numbers.old }
-        ensures marked { ForBackward self.now (λ tables. IsOkAnd result
-            (AreMarked tables haystack.now span from numbers.new)) }
-        ensures placed { IfOk result (λ m. (m.first ≡ from) × (m.upto ≤ m.known) × (m.known ≡ from + 4 * part)) }
-        ensures others { tally.new ≡ record tally.old { scanned = tally.new.scanned } }
-        ensures most { tally.new.scanned + OVERLAP ≤ tally.old.scanned + 12 * part }
-        ensures least { IfOk result (λ _. tally.old.scanned + 4 * part + (self.now.table.longest - 1)
-            ≤ tally.new.scanned) }
-    {
-        let known = from + 4 * part;
-        let block = Block {
-            part,
-            lead: self.table.longest.saturating_sub(1),
-            end: known,
-        };
-        let (limit, bytes) = (self.table.limit()?, self.table.class_bytes());
-        let classes = &bytes;
-        let led = self.lead_in_four(classes, haystack, span, from, block, limit, tally)?;
-        let passed = self.pass_in_four(
-            classes, haystack, span, from, part, led.lanes, limit, tally,
-        );
-        let mut upto = from;
-        if passed.left > 0 {
-            clear(numbers, 4 * part);
-            let lanes = self.mark_last(part, passed, limit, numbers)?;
-            let left = passed.left - 1;
-            self.mark_in_four(
-                classes, haystack, span, from, part, left, lanes, limit, numbers, tally,
-            )?;
-            upto = known;
-        }
-        Ok(Marks {
-            first: from,
-            upto,
-            known,
-            part,
-        })
-    }
-
     /// The largest length of each part of the next block: twice the length in the previous block, or the least one if
     /// at least as many bytes were passed over as that block has.
     fn part_after(&self, before: usize, passed: usize) -> usize
@@ -636,59 +435,6 @@ impl<'t> Backward<'t> {
         let pattern = self.table.ending_at((code - ENDS) as usize)? as usize;
         let len = *self.lens.get(pattern).ok_or(Damaged)?;
         Ok((pattern, len as usize))
-    }
-}
-
-/// Sets the first marks to say that no pattern begins.
-fn clear(marks: &mut [u32], upto: usize)
-    requires inside { upto ≤ length marks.old }
-    ensures long { length marks.new ≡ length marks.old }
-    ensures clear { (at : ℕ) → at < upto → slice_index marks.new at ≡ 0 }
-{
-    marks[..upto].fill(0);
-}
-
-/// Skips offsets whose marks say that no pattern begins. Returns the offset that it reached.
-#[inline(always)]
-fn pass_unmarked(numbers: &[u32], first: usize, from: usize, upto: usize) -> usize
-    requires ordered { from ≤ upto }
-    requires first { from < upto → first ≤ from }
-    requires inside { from < upto → upto ≤ first + length numbers.now }
-    ensures within { (from ≤ result) × (result ≤ upto) }
-    ensures none { (at : ℕ) → from ≤ at → at < result → slice_index numbers.now (at - first) < 2 ^ 31 }
-{
-    let mut at = from;
-    while upto - at >= LANES && !has_begun(numbers, at - first) {
-        at += LANES;
-    }
-    if upto - at >= LANES {
-        at += unmarked_from(numbers, at - first);
-    }
-    at
-}
-
-/// Whether one of 16 marks, from an index on, says that a pattern begins.
-#[inline(always)]
-fn has_begun(numbers: &[u32], at: usize) -> bool
-    requires { at + 16 ≤ length numbers.now }
-    ensures { result ≡ false → (i : ℕ) → at ≤ i → i < at + 16 → slice_index numbers.now i < 2 ^ 31 }
-{
-    u32x16::from_slice(&numbers[at..]).reduce_or() >= ENDS
-}
-
-/// How many of 16 marks, from an index on, come before the first that says that a pattern begins.
-#[inline(always)]
-fn unmarked_from(numbers: &[u32], at: usize) -> usize
-    requires { at + 16 ≤ length numbers.now }
-    ensures few { result ≤ 16 }
-    ensures none { (i : ℕ) → at ≤ i → i < at + result → slice_index numbers.now i < 2 ^ 31 }
-{
-    let marks = u32x16::from_slice(&numbers[at..]);
-    let begun = marks.simd_ge(u32x16::splat(ENDS)).to_bitmask();
-    if begun == 0 {
-        LANES
-    } else {
-        begun.trailing_zeros() as usize
     }
 }
 

@@ -5,8 +5,10 @@
 
 pub mod backward;
 pub mod cursor;
+mod in_four;
 pub mod lanes;
 pub mod leftmost;
+mod marks_in_four;
 pub mod near;
 pub mod prepared_search;
 pub mod short;
@@ -14,3 +16,4 @@ pub mod short_span;
 pub mod so_far;
 pub mod trail;
 pub mod trail_in_four;
+mod unmarked;

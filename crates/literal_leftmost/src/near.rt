@@ -332,11 +332,7 @@ impl<'t> Backward<'t> {
             (ReadsFor self.now.table.longest span tally.old.scanned tally.new.scanned) }
     {
         let scan = &scan_in(self.prints);
-        let begin = Progress {
-            at: span.start,
-            credit: 0,
-            part: FIRST.max(self.table.longest / 2 + 3), // (so a lead is shorter than two parts)
-        };
+        let begin = self.begin_at(span);
         let progress = self.pass_on(scan, haystack, span, begin, tally);
         if progress.at == span.end {
             return Ok(None);
@@ -363,6 +359,9 @@ impl<'t> Backward<'t> {
     {
         if span.start == span.end {
             return Ok(None);
+        }
+        if let Some(short) = self.short() {
+            return self.find_short(&short, haystack, span, tally);
         }
         let near = self.find_near(haystack, span, tally)?;
         if near.found.is_some() {

@@ -1,9 +1,10 @@
 //! The search for leftmost matches by an array that its caller lends, without memory of its own. The array is not
 //! trusted: if a number leads out of it, the search answers [`Damaged`].
 ghost use Rattle.std.specs.Prelude.{◌≡◌, ℕ, ◌+◌, ◌-◌, ◌*◌, ◌<◌, ◌≤◌, ◌↔◌, slice_index};
-ghost use Rattle.std.specs.Prelude.{IfOk, IfSome, IsTrue, MatchResult, None};
+ghost use Rattle.std.specs.Prelude.{IfOk, IfSome, IsTrue, MatchOption, MatchResult, None};
 ghost use Rattle.std.specs.Result.{IsOkAnd};
 ghost use Rattle.literal_base.specs.Occurs.{IsValidSpan, Occurs, between};
+ghost use Rattle.literal_leftmost.specs.Counted.{IsGreedyCount};
 ghost use Rattle.literal_leftmost.specs.LookUps.{LooksOn, ScansNext, ScansRest, no_look_ups};
 ghost use Rattle.literal_leftmost.specs.SearchValue.{LooksFor};
 ghost use Rattle.literal_base.specs.Leftmost.{IsLeftmost};
@@ -153,6 +154,36 @@ impl<'p> Prepared<'p> {
     {
         let backward = self.backward();
         backward.pass_over(&scan_in(backward.prints), haystack, span, tally)
+    }
+
+    /// Returns the number of matches that [`Prepared::find_iter_in`] gives, if the array says that its only pattern is
+    /// one byte, and that case is kept; otherwise `None`. Such a count compares 32 bytes at a time, and takes no
+    /// iteration. With a changed array it may be another number, but no more than the bytes of the span.
+    pub fn count_of_byte_in(&self, haystack: &[u8], span: Span) -> Option<usize>
+        requires { IsValidSpan haystack.now span }
+        ensures count { IfSome result (λ count. ForPrepared self.now
+            (λ search. IsGreedyCount search.query search.ignore_case haystack.now span count)) }
+        ensures most { IfSome result (λ count. count ≤ span.end - span.start) }
+    {
+        self.count_of_byte_in_counted(haystack, span, &mut Tally::new())
+    }
+
+    /// Like [`Prepared::count_of_byte_in`], and counts each looked-up byte in the tally, as scanned: each byte of the
+    /// span once, or none if the answer is `None`.
+    pub fn count_of_byte_in_counted(
+        &self,
+        haystack: &[u8],
+        span: Span,
+        tally: &mut Tally,
+    ) -> Option<usize>
+        requires { IsValidSpan haystack.now span }
+        ensures count { IfSome result (λ count. ForPrepared self.now
+            (λ search. IsGreedyCount search.query search.ignore_case haystack.now span count)) }
+        ensures most { IfSome result (λ count. count ≤ span.end - span.start) }
+        ensures ticks { MatchOption result (tally.new ≡ tally.old) (λ _. tally.new
+            ≡ record tally.old { scanned = tally.old.scanned + (span.end - span.start) }) }
+    {
+        self.backward().count_of_byte(haystack, span, tally)
     }
 
     /// Returns the leftmost match in a span of the haystack, as `Search::find_in` does. With a changed array the answer

@@ -1,14 +1,20 @@
 //! A short pattern, with which a list compares the haystack at candidates.
-ghost use Rattle.std.specs.Prelude.{◌≡◌, ◌+◌, ◌≤◌, IfSome, MatchOption};
+ghost use Rattle.std.specs.Prelude.{◌≡◌, ◌+◌, ◌-◌, ◌*◌, ◌≤◌, IfOk, IfSome, MatchOption};
+ghost use Rattle.std.specs.Result.{IsOkAnd};
+ghost use Rattle.literal_base.specs.Leftmost.{IsLeftmost};
+ghost use Rattle.literal_leftmost.specs.SearchValue.{LooksFor};
 ghost use Rattle.literal_base.specs.Leftmost.{IsLeftmostMatch};
 ghost use Rattle.literal_base.specs.Occurs.{IsValidSpan, between};
+ghost use Rattle.literal_leftmost.specs.Counted.{IsGreedyCount, IsOnlyByte};
 ghost use Rattle.literal_leftmost.specs.Inside.Backward.{ForBackward, IsMatchBy, IsOnlyOf, IsSafe, NoneBeginsAt};
 
 use crate::backward::Backward;
+use crate::leftmost::Progress;
 use literal_base::count::Tally;
 use literal_base::{Match, Span};
-use literal_fingerprints::ShortPattern;
-use literal_rows::array::{SCAN_LEN, SHORT_AT, short_by};
+use literal_fingerprints::{ShortPattern, count_byte};
+use literal_rows::array::{SCAN_LEN, SHORT_AT, scan_in, short_by};
+use literal_rows::damaged::Damaged;
 
 /// A short pattern is compared if at least this many bytes of the span are left, which is the most that it has.
 const SHORTEST_REST: usize = 16;
@@ -77,5 +83,83 @@ impl<'t> Backward<'t> {
         }
         let end = at + short.len as usize;
         Some(Match::must(0, Span { start: at, end }))
+    }
+
+    /// The leftmost match of a span by the only pattern, which is short. At a candidate the haystack is compared with it,
+    /// if the scan passed over enough bytes. If it passed over few, walks look for it from there on.
+    pub(crate) fn find_short(
+        &self,
+        short: &ShortPattern,
+        haystack: &[u8],
+        span: Span,
+        tally: &mut Tally,
+    ) -> Result<Option<Match>, Damaged>
+        requires safe { IsSafe self.now }
+        requires only { IsOnlyOf self.now short.now }
+        requires valid { IsValidSpan haystack.now span }
+        ensures leftmost { ForBackward self.now (λ tables. IsOkAnd result
+            (IsLeftmost tables.search.query tables.search.ignore_case haystack.now span)) }
+        ensures lies { IfOk result (λ answer. IfSome answer (IsMatchBy self.now span span.start)) }
+        ensures others { tally.new ≡ record tally.old { scanned = tally.new.scanned } }
+        ensures most { tally.new.scanned ≤ tally.old.scanned + 3 * (span.end - span.start) }
+        ensures counted { IfOk result (λ answer.
+            LooksFor self.now.table.longest span answer tally.old.scanned tally.new.scanned) }
+    {
+        let scan = &scan_in(self.prints);
+        let begin = self.begin_at(span);
+        let mut progress = self.pass_on(scan, haystack, span, begin, tally);
+        while progress.credit >= SHORTEST_REST && span.end - progress.at >= SHORTEST_REST {
+            if let Some(found) = self.compare_at(short, haystack, span, progress.at, tally) {
+                return Ok(Some(found));
+            }
+            let next = Progress {
+                at: progress.at + 1,
+                credit: progress.credit - SHORTEST_REST,
+                part: progress.part,
+            };
+            progress = self.pass_on(scan, haystack, span, next, tally);
+        }
+        if progress.at == span.end {
+            return Ok(None);
+        }
+        let Some(begun) = self.first_after(haystack, span, progress, tally)? else {
+            return Ok(None);
+        };
+        let found = self.match_at(haystack, span, begun.at, begun.code)?;
+        Ok(Some(found))
+    }
+
+    /// The only pattern's byte, if it is one byte, and case is kept.
+    #[inline(always)]
+    fn only_byte(&self) -> Option<u8>
+        requires { IsSafe self.now }
+        ensures { IfSome result (λ byte. ForBackward self.now
+            (λ tables. IsOnlyByte byte tables.search.ignore_case tables.search.query.patterns)) }
+    {
+        let short = self.short()?;
+        if short.len != 1 {
+            return None;
+        }
+        Some(short.bytes[0])
+    }
+
+    /// The number of matches in a span, if the only pattern is one byte, and case is kept. Each byte of the span is
+    /// compared with it.
+    pub(crate) fn count_of_byte(
+        &self,
+        haystack: &[u8],
+        span: Span,
+        tally: &mut Tally,
+    ) -> Option<usize>
+        requires safe { IsSafe self.now }
+        requires valid { IsValidSpan haystack.now span }
+        ensures count { IfSome result (λ count. ForBackward self.now (λ tables.
+            IsGreedyCount tables.search.query tables.search.ignore_case haystack.now span count)) }
+        ensures most { IfSome result (λ count. count ≤ span.end - span.start) }
+        ensures ticks { MatchOption result (tally.new ≡ tally.old) (λ _. tally.new
+            ≡ record tally.old { scanned = tally.old.scanned + (span.end - span.start) }) }
+    {
+        let byte = self.only_byte()?;
+        Some(count_byte(haystack, span, byte, tally))
     }
 }

@@ -16,6 +16,7 @@ pub mod packed;
 pub mod prefixes;
 pub mod shadowed;
 pub mod suffixes;
+pub mod texts;
 pub mod walk;
 
 /// The length of the longest pattern, or 0 if there is none.

@@ -12,9 +12,10 @@ ghost use Rattle.literal_rows.specs.Inside.Classes.{AreClasses};
 ghost use Rattle.literal_rows.specs.Inside.Shadowed.{AreRowsFor, chosen_by, texts_by};
 
 use crate::classes::Classes;
-use crate::grow::{GrowError, LIMIT, grow, numbers};
+use crate::grow::{GrowError, grow, numbers};
 use crate::prefixes::first_prefixes;
 use crate::suffixes::Recognised;
+use crate::texts::LIMIT;
 use crate::total_bytes;
 use crate::walk::NOTHING;
 use literal_base::packed::MatchKind;

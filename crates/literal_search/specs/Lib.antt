@@ -1,5 +1,6 @@
 pub use Rattle.literal_leftmost.specs.At
 pub use Rattle.literal_occurrences.specs.Automaton
+pub use Rattle.literal_leftmost.specs.Counted
 pub use Rattle.literal_occurrences.specs.Earliest
 pub mod ErrorText
 pub mod Inside

@@ -11,7 +11,7 @@ use Rattle.litscan.specs.Scans.{Scans}
 use Rattle.litscan.specs.declared.files.Found.{Found}
 use Rattle.litscan.specs.declared.input.FileId.{FileId}
 use Rattle.litscan.specs.declared.options.Options.{Options}
-use Rattle.litscan.specs.declared.scan.Scanned.{Scanned}
+use Rattle.litscan.specs.declared.selected.Scanned.{Scanned}
 
 -- whether this is the name of standard input, a dash
 abbrev pub is_input : List ℕ → Bool

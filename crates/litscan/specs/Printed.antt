@@ -16,7 +16,7 @@ use Rattle.litscan.specs.Options.{is_colored, is_enough, limit_of}
 use Rattle.litscan.specs.declared.fault.Fault.{Fault}
 use Rattle.litscan.specs.declared.fault.Fault.TheVariants.{OutOfMemory}
 use Rattle.litscan.specs.declared.options.Options.{Options}
-use Rattle.litscan.specs.declared.scan.Scanned.{Scanned}
+use Rattle.litscan.specs.declared.selected.Scanned.{Scanned}
 
 -- the known bytes left to read were this text, and none is left
 abbrev pub ReadsAll : Option (List ℕ) → Option (List ℕ) → List ℕ → Type 0

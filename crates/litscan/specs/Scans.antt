@@ -9,7 +9,7 @@ use Rattle.litscan.specs.Lines.{lines_of}
 use Rattle.litscan.specs.Options.{is_silent, limit_of, skips_zero}
 use Rattle.litscan.specs.Printed.{PrintsUnlessSilent, Reads, StopsAtEnough, are_enough, counts, printed_behind}
 use Rattle.litscan.specs.declared.options.Options.{Options}
-use Rattle.litscan.specs.declared.scan.Scanned.{Scanned}
+use Rattle.litscan.specs.declared.selected.Scanned.{Scanned}
 
 -- for each line, whether it is selected. The lines up to the one with which enough are selected are selected by their
 -- words, and those after it are not

@@ -1,17 +1,18 @@
 //! Handles lines where they are buffered, without a copy of them.
-ghost use Rattle.std.specs.Prelude.{◌≡◌, ◌≤◌, [], IfErr, IfOk, OnOk, if◌then◌else◌, false, length, take};
-ghost use Rattle.std.specs.Io.KnownBytes.{Appends};
 ghost use Rattle.literal_base.specs.declared.packed.MatchKind.TheVariants.{LeftmostLongest};
-ghost use Rattle.litscan.specs.Fault.{IsWriteFault};
+ghost use Rattle.litscan.specs.Fault.{IsReadFault, IsWriteFault, StopsRead};
 ghost use Rattle.litscan.specs.Inside.Passed.{PassesOthers, TakesLines, prints_others};
+ghost use Rattle.litscan.specs.declared.fault.Fault.TheVariants.{ReadFailed};
+ghost use Rattle.std.specs.Io.KnownBytes.{Appends, Consumes, Keeps};
+ghost use Rattle.std.specs.Prelude.{◌≡◌, ◌≤◌, IfErr, IfOk, List, OnOk, [], false, if◌then◌else◌, length, take, ℕ};
 
 use crate::device::{Device, flush_line};
 use crate::fault::Fault;
 use crate::options::Options;
 use crate::passed::look_ahead;
-use crate::scan::{end_behind, prints_nothing, take_line};
+use crate::selected::{end_behind, prints_nothing, take_line};
 use literal_search::Search;
-use std::io::Write;
+use std::io::{self, BufRead, ErrorKind, Write};
 
 /// Whole lines that were handled where they are buffered.
 #[derive(Clone, Copy)]
@@ -40,10 +41,58 @@ impl Ahead {
     }
 }
 
+impl<R: BufRead> Device<R> {
+    /// Handles the lines of the buffered bytes before the first match and, if it is buffered as a whole, the line of
+    /// that match. The bytes begin at this offset of the text, after so many lines. With `-v` the lines before the
+    /// match are printed. `far` says whether it looks at more than the first line.
+    pub fn take_lines<W: Write>(
+        &mut self,
+        search: &Search,
+        options: Options,
+        name: &[u8],
+        lines: u64,
+        offset: u64,
+        far: bool,
+        writer: &mut Device<W>,
+    ) -> Result<Ahead, Fault>
+        requires longest { search.now.query.kind ≡ LeftmostLongest }
+        requires plain { PassesOthers options }
+        requires few { lines ≤ offset }
+        ensures takes { IfOk result (λ ahead. (text : List ℕ)
+            × Consumes (R.remaining self.old.inner) (R.remaining self.new.inner) text
+            × TakesLines search.now options name.now lines offset ahead text (W.contents writer.old.inner)
+            (W.contents writer.new.inner)) }
+        ensures kept { IfErr result (λ fault. fault ≡ ReadFailed
+            → Keeps (W.contents writer.old.inner) (W.contents writer.new.inner)) }
+        ensures error { IfErr result (StopsRead self.new.failure writer.new.failure) }
+    {
+        let taken = match self.inner.fill_buf() {
+            Ok(bytes) => take_buffered(search, options, name, lines, offset, far, bytes, writer),
+            Err(error) => return self.after_fill(error),
+        };
+        let ahead = taken?;
+        self.inner.consume(ahead.bytes);
+        Ok(ahead)
+    }
+
+    /// The result of [`Device::take_lines`] if a read fails. After an interrupted read, no line is handled.
+    fn after_fill(&mut self, error: io::Error) -> Result<Ahead, Fault>
+        ensures inner { self.new.inner ≡ self.old.inner }
+        ensures none { IfOk result (λ ahead. ahead ≡ record { lines = 0; bytes = 0; count = 0; found = false }) }
+        ensures error { IfErr result (IsReadFault self.new.failure) }
+    {
+        if error.kind() == ErrorKind::Interrupted {
+            return Ok(Ahead::none());
+        }
+        self.failure = Some(error.kind());
+        Err(Fault::of_read(error))
+    }
+}
+
 /// Handles the lines before the first match in buffered bytes, which begin at this offset after so many lines, and the
 /// line of that match if it is there as a whole. Handles none if the offset after the bytes reaches 2^64. With `-v` the
 /// lines before the match are printed at once. `far` says whether it looks at more than the first line.
-pub fn take_buffered<W: Write>(
+fn take_buffered<W: Write>(
     search: &Search,
     options: Options,
     name: &[u8],

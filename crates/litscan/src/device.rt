@@ -1,23 +1,19 @@
 //! Readers and writers that remember their last failure.
-ghost use Rattle.std.specs.Prelude.{◌≡◌, ◌≤◌, ◌==◌, ◌⊎◌, None, Ok, Err, Some, false, if◌then◌else◌, IfErr, IfOk};
-ghost use Rattle.std.specs.Prelude.{IfSome, List, MatchResult, OnOk, true, ℕ};
-ghost use Rattle.std.specs.IoError.{error_kind};
-ghost use Rattle.std.specs.declared.io.ErrorKind.TheVariants.{Interrupted};
-ghost use Rattle.std.specs.List.{list_any};
-ghost use Rattle.std.specs.Option.{IsSome, OnSome};
-ghost use Rattle.std.specs.Io.{StopsAt};
-ghost use Rattle.std.specs.Io.KnownBytes.{Appends, Consumes, IsAtEnd, Keeps};
-ghost use Rattle.literal_base.specs.declared.packed.MatchKind.TheVariants.{LeftmostLongest};
-ghost use Rattle.litscan.specs.Fault.{IsReadFault, IsWriteFault, StopsRead, write_fault};
+ghost use Rattle.litscan.specs.Fault.{IsReadFault, IsWriteFault, write_fault};
 ghost use Rattle.litscan.specs.Lines.{HasNoEnd, with_end};
 ghost use Rattle.litscan.specs.Scans.{BeginsWithoutZero, HasZero};
-ghost use Rattle.litscan.specs.Inside.Passed.{PassesOthers, TakesLines};
-ghost use Rattle.litscan.specs.declared.fault.Fault.TheVariants.{OutOfMemory, ReadFailed};
+ghost use Rattle.litscan.specs.declared.fault.Fault.TheVariants.{OutOfMemory};
+ghost use Rattle.std.specs.Io.{StopsAt};
+ghost use Rattle.std.specs.Io.KnownBytes.{Appends, Consumes, IsAtEnd, Keeps};
+ghost use Rattle.std.specs.IoError.{error_kind};
+ghost use Rattle.std.specs.List.{list_any};
+ghost use Rattle.std.specs.Option.{IsSome, OnSome};
+ghost use Rattle.std.specs.Prelude.{◌==◌, ◌≡◌, ◌⊎◌, Err, IfErr, IfOk, IfSome, MatchResult, None, Ok, OnOk, Some};
+ghost use Rattle.std.specs.Prelude.{false, if◌then◌else◌, true};
+ghost use Rattle.std.specs.declared.io.ErrorKind.TheVariants.{Interrupted};
 
-use crate::ahead::{Ahead, take_buffered};
 use crate::fault::Fault;
 use crate::options::Options;
-use literal_search::Search;
 use std::fmt::Display;
 use std::io::{self, BufRead, BufReader, ErrorKind, Read, Write};
 use std::marker::Model;
@@ -26,8 +22,8 @@ use std::marker::Model;
 /// successful flush. By that error, contracts say which device caused a fault.
 #[derive(Drop)]
 pub struct Device<D> {
-    inner: D,
-    failure: Option<ErrorKind>,
+    pub(crate) inner: D,
+    pub(crate) failure: Option<ErrorKind>,
     flushed: bool,
     /// Whether a read may wait for input. Contracts do not see this.
     waits: bool,
@@ -107,39 +103,6 @@ impl<R: BufRead> Device<R> {
         }
     }
 
-    /// Handles the lines of the buffered bytes before the first match and, if it is buffered as a whole, the line of
-    /// that match. The bytes begin at this offset of the text, after so many lines. With `-v` the lines before the
-    /// match are printed. `far` says whether it looks at more than the first line.
-    pub fn take_lines<W: Write>(
-        &mut self,
-        search: &Search,
-        options: Options,
-        name: &[u8],
-        lines: u64,
-        offset: u64,
-        far: bool,
-        writer: &mut Device<W>,
-    ) -> Result<Ahead, Fault>
-        requires longest { search.now.query.kind ≡ LeftmostLongest }
-        requires plain { PassesOthers options }
-        requires few { lines ≤ offset }
-        ensures takes { IfOk result (λ ahead. (text : List ℕ)
-            × Consumes (R.remaining self.old.inner) (R.remaining self.new.inner) text
-            × TakesLines search.now options name.now lines offset ahead text (W.contents writer.old.inner)
-            (W.contents writer.new.inner)) }
-        ensures kept { IfErr result (λ fault. fault ≡ ReadFailed
-            → Keeps (W.contents writer.old.inner) (W.contents writer.new.inner)) }
-        ensures error { IfErr result (StopsRead self.new.failure writer.new.failure) }
-    {
-        let taken = match self.inner.fill_buf() {
-            Ok(bytes) => take_buffered(search, options, name, lines, offset, far, bytes, writer),
-            Err(error) => return self.after_fill(error),
-        };
-        let ahead = taken?;
-        self.inner.consume(ahead.bytes);
-        Ok(ahead)
-    }
-
     /// Whether the buffered bytes contain a zero byte. Nothing is consumed. An interrupted read is tried again. False
     /// if the read fails.
     pub fn has_zero_ahead(&mut self) -> bool
@@ -175,19 +138,6 @@ impl<R: BufRead> Device<R> {
             self.failure = Some(ErrorKind::OutOfMemory);
         }
         fault
-    }
-
-    /// The result of [`Device::take_lines`] if a read fails. After an interrupted read, no line is handled.
-    fn after_fill(&mut self, error: io::Error) -> Result<Ahead, Fault>
-        ensures inner { self.new.inner ≡ self.old.inner }
-        ensures none { IfOk result (λ ahead. ahead ≡ record { lines = 0; bytes = 0; count = 0; found = false }) }
-        ensures error { IfErr result (IsReadFault self.new.failure) }
-    {
-        if error.kind() == ErrorKind::Interrupted {
-            return Ok(Ahead::none());
-        }
-        self.failure = Some(error.kind());
-        Err(Fault::of_read(error))
     }
 }
 

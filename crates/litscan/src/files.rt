@@ -19,7 +19,8 @@ use crate::input::{
     options_for_input, reader_of, tell,
 };
 use crate::options::Options;
-use crate::scan::{Scanned, scan};
+use crate::scan::scan;
+use crate::selected::Scanned;
 use literal_search::Search;
 use std::io::{BufRead, ErrorKind, Write};
 

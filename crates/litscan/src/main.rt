@@ -20,6 +20,7 @@ mod passed;
 mod printing;
 mod request;
 mod scan;
+mod selected;
 mod walk;
 mod words;
 

@@ -13,7 +13,7 @@ use crate::context::Context;
 use crate::device::{Device, ReadsAhead, flush_before_wait, flush_line};
 use crate::fault::Fault;
 use crate::options::{Options, is_enough};
-use crate::scan::{Scanned, counts, end_behind, failed_behind};
+use crate::selected::{Scanned, counts, end_behind, failed_behind};
 use literal_search::Search;
 use std::alloc::Global;
 use std::io::{BufRead, Write};

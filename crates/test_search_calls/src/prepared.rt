@@ -1,5 +1,5 @@
 //! Arrays that a search fills, and the calls of searches by them that the exports for C don't make.
-use crate::made::first_of;
+use crate::made::{first_of, longest_of};
 use literal_base::count::Tally;
 use literal_search::{
     ArrayTooShort, Match, MatchKind, Overlapping, Prepared, PreparedOverlapping, SoFar, Span,
@@ -55,6 +55,23 @@ fn counts_by_an_array(rt: HostRuntime) -> Result<(), Fail> {
     let span = Span { start: 3, end: 18 };
     let candidate = prepared.first_candidate_in_counted(HAYSTACK, span, &mut Tally::new());
     assert!(rt; candidate == 12);
+    Ok(())
+}
+
+/// The count of a byte in the haystack by an array of another search, with one byte.
+fn counted_of(alloc: Global, byte: u8, span: Span) -> Result<Option<usize>, Fail> {
+    let search = longest_of(alloc, &[&[byte]])?;
+    let mut array = vec![in alloc; 0; search.prepared_len()]?;
+    search.prepare(&mut array)?;
+    let prepared = Prepared::new(&array)?;
+    Ok(prepared.count_of_byte_in_counted(HAYSTACK, span, &mut Tally::new()))
+}
+
+#[test]
+fn counts_one_byte_by_an_array(rt: HostRuntime) -> Result<(), Fail> {
+    let (array, span) = (filled(rt.alloc())?, Span { start: 1, end: 17 });
+    assert!(rt; Prepared::new(&array)?.count_of_byte_in(HAYSTACK, span) == None);
+    assert!(rt; counted_of(rt.alloc(), b' ', span)? == Some(3));
     Ok(())
 }
 

@@ -11,11 +11,12 @@ use Rattle.std.proofs.lemmas.List.Elements.{All-push}
 use Rattle.std.specs.Iterator.{Yields}
 use Rattle.std.specs.List.{All}
 use Rattle.std.specs.Result.{IsOkAnd}
-use Rattle.literal_base.specs.Greedy.{IsGreedy}
+use Rattle.literal_base.specs.Greedy.{IsGreedy, IsGreedyIn}
 use Rattle.literal_base.specs.Leftmost.{IsLeftmostMatch}
 use Rattle.literal_base.specs.MatchValue.{MatchValue}
 use Rattle.literal_base.specs.Occurs.{NothingOccurs, Occurs, between, rest_from}
 use Rattle.literal_base.specs.Query.{Query}
+use Rattle.literal_leftmost.specs.Counted.{IsGreedyCount}
 use Rattle.literal_search.specs.OverlappingMatchesValue.{GivesOverlapping, OverlappingMatchesValue}
 use Rattle.literal_rows.specs.declared.damaged.Damaged.{Damaged}
 use Rattle.literal_c.specs.Answers.{AreNext, BeginsNone, IsCount, IsPage, MayBeFound, end_of_last, match_of}
@@ -116,6 +117,19 @@ module _ (query : Query) (ignore_case : Bool) (haystack : List ℕ) where
   pub count_of_none : (span : Span) → NothingOccurs query.patterns ignore_case haystack span
       → IsCount query ignore_case haystack span 0
   count_of_none span none = ([], span.start, none_here span.end span.start, none, refl)
+
+  next_in_greedy : (at end : ℕ) (all : List MatchValue) → IsGreedyIn query ignore_case haystack (between at end) all
+      → (next : ℕ) × AreNext query ignore_case haystack end at all next
+      × NothingOccurs query.patterns ignore_case haystack (between next end)
+  next_in_greedy at end [] nothing = (at, none_here end at, nothing)
+  next_in_greedy at end (found ∷ more) greedy =
+      let rest = next_in_greedy found.end end more greedy.1 in (rest.0, (greedy.0, rest.1), rest.2)
+
+  -- the length of a greedy list
+  pub count_of_greedy : (span : Span) (count : ℕ) → IsGreedyCount query ignore_case haystack span count
+      → IsCount query ignore_case haystack span count
+  count_of_greedy span count (all, greedy, is) =
+      let next = next_in_greedy span.start span.end all greedy in (all, next.0, next.1, next.2, is)
 
   -- the matches in the rest of a span, before which none begins, are those in the span
   pub count_in_rest : (span : Span) (at : ℕ) (counted : Result ℕ Damaged)

@@ -1,6 +1,7 @@
 -- Places at which a haystack has no pair of bytes.
 use Rattle.std.proofs.Common.{◌≡◌, ◌≢◌, ℕ, ◌+◌, ◌-◌, ◌%◌, ◌<◌, ◌≤◌, ◌∙◌, List, ap, arith, bit_and, bit_or, cond}
-use Rattle.std.proofs.Common.{[], Bool, eqb, false, get_or, inl, inr, ltb, min, refl, subst, sym, true}
+use Rattle.std.proofs.Common.{[], Bool, eqb, false, get_or, inl, inr, ltb, min, refl, subst, sym, take, true}
+use Rattle.std.proofs.lemmas.List.{get_or-take}
 use Rattle.std.proofs.lemmas.Bool.{cases_lt, eq-eqb, eqb-true, le-ltb, lt-ltb}
 use Rattle.std.proofs.lemmas.Bool.Decides.{nat_tests}
 use Rattle.std.specs.Int.Bits.{and_zero_l, and_zero_r}
@@ -9,7 +10,7 @@ use Rattle.literal_base.specs.declared.search.Span.{Span}
 use Rattle.literal_fingerprints.specs.RarePairs.{HasBytes, HasPair, HasPairOfEarlier, NoPairBegins, first_offset}
 use Rattle.literal_fingerprints.specs.RarePairs.{has_between}
 use Rattle.literal_fingerprints.specs.declared.pair.RarePair.{RarePair}
-use Rattle.literal_fingerprints.specs.Inside.Hits.{hit, pair_hit, with_between}
+use Rattle.literal_fingerprints.specs.Inside.Hits.{NoneHit, hit, hit_from, pair_hit, with_between}
 use Rattle.literal_fingerprints.specs.Inside.Lanes.{AreLanes, HasBack, HasLanes, HasWide}
 use Rattle.literal_base.proofs.lemmas.Callers.{bytes_at}
 use Rattle.literal_fingerprints.proofs.lemmas.Sets.{meets}
@@ -43,10 +44,6 @@ between_of : (three : Bool) (a b : ℕ) → with_between three a b ≢ 0 → thr
 between_of true a b some is = (some_of a b some).1
 between_of false a b some is = absurd (cc is)
 
-no_ends : (three : Bool) (a b : ℕ) → a ≡ 0 → with_between three a b ≡ 0
-no_ends true a b none = ap (λ x. bit_and x b) none ∙ and_zero_l b
-no_ends false a b none = none
-
 all_hit : (three : Bool) (a b c : ℕ) → a ≡ 255 → c ≡ 255 → (three ≡ true → b ≡ 255)
     → with_between three (bit_and a c) b ≡ 255
 all_hit true a b c first second between =
@@ -58,14 +55,6 @@ far_by pair known = grind (arith, nat_tests)
 
 pub some_by : (pair : RarePair) → has_between pair ≡ true → pair.between ≢ 0
 some_by pair known none = grind (arith, nat_tests)
-
--- the hits of a pair of which the first byte is at an offset of a haystack
-abbrev pub hit_from : RarePair → ℕ → ℕ → Bool → ℕ → List ℕ → ℕ → ℕ
-hit_from pair first_mask second_mask three apart haystack k =
-    with_between three
-    (bit_and (hit pair.first.byte first_mask (get_or haystack k 0))
-    (hit pair.second.byte second_mask (get_or haystack (k + apart) 0)))
-    (hit pair.between first_mask (get_or haystack (k + 1) 0))
 
 -- hits are 255 or 0
 all_bits : (three a b c : Bool)
@@ -103,10 +92,8 @@ module _ (pair : RarePair) (first_mask second_mask : ℕ) where
       meets _ _ _ _ (ap (hit pair.first.byte first_mask) first) (ap (hit pair.second.byte second_mask) second)
 
   module _ (three : Bool) (apart : ℕ) (haystack : List ℕ) (origin : ℕ) where
-    -- no pair is, of which the second byte lies before an offset
-    abbrev pub NoneHit : ℕ → Type 0
-    NoneHit at = (k : ℕ) → origin ≤ k → k + apart < at
-        → hit_from pair first_mask second_mask three apart haystack k ≡ 0
+    abbrev NoneBefore : ℕ → Type 0
+    NoneBefore = NoneHit pair first_mask second_mask three apart haystack origin
 
     -- the lanes of the vector at an offset have the hits of the pairs of which the second byte is there
     abbrev pub PairLanes : ℕ → List ℕ → ℕ → Type 0
@@ -153,7 +140,8 @@ module _ (pair : RarePair) (first_mask second_mask : ℕ) where
 
     module _ (width at : ℕ) (lanes : List ℕ) (has : PairLanes width lanes at) (after : origin ≤ at) where
       -- more offsets at which there is none
-      pub none_more : (n : ℕ) → n ≤ width → ((k : ℕ) → k < n → get_or lanes k 0 ≡ 0) → NoneHit at → NoneHit (at + n)
+      pub none_more : (n : ℕ) → n ≤ width → ((k : ℕ) → k < n → get_or lanes k 0 ≡ 0) → NoneBefore at
+          → NoneBefore (at + n)
       none_more n within zero old k later below = elim (cases_lt (k + apart) at) [
         | inl before ↦ old k later before
         | inr not ↦
@@ -262,31 +250,25 @@ module _ (pair : RarePair) (first_mask second_mask : ℕ) (three : Bool) (apart 
           )),
         ))
 
+    -- none begins before a place, if no lane is set before one after the place's pair
+    pub none_upto : (span : Span) → IsValidSpan haystack span → (width at : ℕ) (lanes : List ℕ)
+        → PairLanes pair first_mask second_mask three apart haystack span.start width lanes at → span.start ≤ at
+        → NoneHit pair first_mask second_mask three apart haystack span.start at → (n place : ℕ) → n ≤ width
+        → ((k : ℕ) → k < n → get_or lanes k 0 ≡ 0)
+        → ((p : ℕ) → span.start ≤ p → p < place → p + (offset + apart) < span.end → p + (offset + apart) < at + n)
+        → NoPairBegins pair haystack span place
+    none_upto span valid width at lanes has after old n place within zero low =
+        let none = none_more pair first_mask second_mask three apart haystack span.start width at lanes has after n
+        within zero old in
+        no_pair_begins span valid place
+        (λ p later before inside. none (p + offset) (omega (arith, later)) (omega (arith, low p later before inside)))
+
     -- where none is of which the second byte lies before a place
     pub none_by : (start at place : ℕ) → ((p : ℕ) → start ≤ p → p < place → p + (offset + apart) < at)
         → NoneHit pair first_mask second_mask three apart haystack start at → (p : ℕ) → start ≤ p → p < place
         → HitAt (p + offset) ≡ 0
     none_by start at place low none p after before =
         none (p + offset) (omega arith) (omega (arith, low p after before))
-
-    -- and behind it none has the second byte
-    pub none_by_rest : (span : Span) (at place : ℕ)
-        → NoneHit pair first_mask second_mask three apart haystack span.start at
-        → ((p : ℕ) → span.start ≤ p → p < place → at ≤ p + (offset + apart)
-        → p + (offset + apart) < span.end
-        → hit pair.second.byte second_mask (get_or haystack (p + (offset + apart)) 0) ≡ 0)
-        → (p : ℕ) → span.start ≤ p → p < place → p + (offset + apart) < span.end → HitAt (p + offset) ≡ 0
-    none_by_rest span at place none rest p after before inside =
-        elim (cases_lt (p + (offset + apart)) at) [
-          | inl low ↦ none (p + offset) (omega arith) (omega arith)
-          | inr not ↦
-              let same : p + (offset + apart) ≡ p + offset + apart = omega arith in
-              no_ends three _ _
-              (ap (bit_and (hit pair.first.byte first_mask (get_or haystack (p + offset) 0)))
-              (ap (λ j. hit pair.second.byte second_mask (get_or haystack j 0)) (sym same)
-              ∙ rest p after before (omega arith) inside)
-              ∙ and_zero_r _)
-        ]
 
     has_bytes : (k : ℕ) → HitAt k ≢ 0 → HasBytes pair haystack k
     has_bytes k some =
@@ -312,13 +294,30 @@ module _ (pair : RarePair) (first_mask second_mask : ℕ) (three : Bool) (apart 
         below stops k (omega (arith, is_offset)) (omega (arith, is_offset)))
 
     -- and where the pattern would begin before the start, the pair is one of an earlier pattern
-    pub has_earlier : (start : ℕ) (lanes : List ℕ)
-        → PairLanes pair first_mask second_mask three apart haystack start 16 lanes start → (n : ℕ) → n < 16
+    pub has_earlier : (start width : ℕ) (lanes : List ℕ)
+        → PairLanes pair first_mask second_mask three apart haystack start width lanes start → (n : ℕ) → n < width
         → get_or lanes n 0 ≢ 0 → apart ≤ n → n < offset + apart → HasPairOfEarlier pair haystack start
-    has_earlier start lanes has n below stops inside low =
+    has_earlier start width lanes has n below stops inside low =
         let k = n - apart in (
           k,
           omega (arith, is_offset),
-          has_bytes (start + k) (is_pair pair first_mask second_mask three apart haystack start 16 start lanes
+          has_bytes (start + k) (is_pair pair first_mask second_mask three apart haystack start width start lanes
               has (omega arith) n below stops (start + k) (omega arith) (omega arith)),
         )
+
+    -- up to an end, the lanes of the bytes before it are those of the haystack
+    hits_upto : (end k : ℕ) → k + apart < end
+        → hit_from pair first_mask second_mask three apart (take end haystack) k ≡ HitAt k
+    hits_upto end k below =
+        let text = λ (j : ℕ). get_or (take end haystack) (k + j) 0 in
+        let byte = λ (j : ℕ) (before : j < end). get_or-take end haystack j 0 before in
+        let here : text 0 ≡ get_or (take end haystack) k 0 = ap (λ j. get_or (take end haystack) j 0) (omega arith) in
+        sym (same_hit pair first_mask second_mask three apart (take end haystack) text k here refl (λ _. refl))
+        ∙ same_hit pair first_mask second_mask three apart haystack text k (here ∙ byte k (omega arith))
+        (byte (k + apart) below) (λ known. byte (k + 1) (omega (arith, wide known)))
+
+    pub lanes_upto_end : (start at end : ℕ) (lanes : List ℕ) → end ≤ at + 16
+        → PairLanes pair first_mask second_mask three apart (take end haystack) start 16 lanes at
+        → PairLanes pair first_mask second_mask three apart haystack start (end - at) lanes at
+    lanes_upto_end start at end lanes few has k below far =
+        has k (omega arith) far ∙ hits_upto end (at + k - apart) (omega arith)

@@ -1,9 +1,9 @@
 -- What operations on vectors hold in each lane.
 use Rattle.std.proofs.Common.{◌≡◌, ◌≢◌, ℕ, ◌+◌, ◌-◌, ◌*◌, ◌/◌, ◌%◌, ◌^◌, ◌<◌, ◌≤◌, ◌∙◌, ◌++◌, List, true, false, not}
 use Rattle.std.proofs.Common.{eqb, length, get_or, replicate, refl, cond, map, sym, ap, arith, take, w8, inl, inr}
-use Rattle.std.proofs.Common.{Bool, drop, length-append, subst, zero-add}
+use Rattle.std.proofs.Common.{Bool, T, drop, false, ltb, ◌||◌, length-append, subst, zero-add}
 use Rattle.std.proofs.lemmas.Simd.{length-replicate}
-use Rattle.std.proofs.lemmas.Bool.{cases_lt}
+use Rattle.std.proofs.lemmas.Bool.{cases_lt, le-ltb, lt-leb, lt-ltb}
 use Rattle.std.proofs.lemmas.Bool.Decides.{nat_tests}
 use Rattle.std.proofs.lemmas.List.{get_or-append_right, get_or-drop, get_or-take, get_or_append_left, get_or_past}
 use Rattle.std.proofs.lemmas.List.{length-drop, length-take}
@@ -15,6 +15,10 @@ use Rattle.std.proofs.lemmas.Simd.{swz_l, trailing_mask_l}
 use Rattle.std.specs.List.{prefix_len, range_with_len}
 use Rattle.std.specs.Simd.Lanes.{mask_l, pick_l, sel_l, top, zip2}
 use Rattle.std.specs.List.{slice_range}
+use Rattle.literal_fingerprints.specs.declared.lanes.TheConstants.{PLACES}
+use Rattle.std.proofs.lemmas.List.FromFn.{get_or-map-range_with_len}
+use Rattle.std.proofs.lemmas.Simd.{SwzOk-from_Each1, get_or-swz_l}
+use mir.Val.{zeroes}
 use lib.Count.{count_trailing_zeros}
 use lib.Lanes.{chunk}
 use Rattle.literal_fingerprints.specs.Inside.Lanes.{AreLanes, HasBack, HasLanes, HasWide}
@@ -250,3 +254,89 @@ module _ (n : ℕ) (few : n ≤ 64) (lanes : List ℕ) (long : length lanes ≡ 
       let here : get_or lanes m 0 ≡ 0 = ap (λ k. get_or lanes k 0) (sym (first_is some)) ∙ none in
       let stops = prefix_len_stops (λ x. not (not (eqb x 0))) lanes 0 (omega (arith, first_is some)) in
       set_not (get_or lanes m 0) stops here
+
+place_of : ℕ → ℕ
+place_of j = cond (ltb j 16) j 255
+
+places_are : (j : ℕ) → j < 32 → get_or PLACES j 0 ≡ place_of j
+unfolding place_of
+places_are j below = get_or-map-range_with_len place_of 0 32 j j 0 below (omega arith)
+
+small : (j : ℕ) → j < 16 → zeroes 16 w8 j ≡ false
+small j below = lt-leb 128 j (omega arith)
+
+-- a place is a lane, or gives 0
+place_is : (j : ℕ) → T (zeroes 16 w8 (place_of j) || ltb (place_of j) 16)
+unfolding place_of
+place_is j = elim (cases_lt j 16) [
+  | inl below ↦ subst (λ t. T (zeroes 16 w8 (cond t j 255) || ltb (cond t j 255) 16)) (sym (lt-ltb j 16 below))
+      (subst (λ t. T (zeroes 16 w8 j || t)) (sym (lt-ltb j 16 below)) (grind arith))
+  | inr not ↦ subst (λ t. T (zeroes 16 w8 (cond t j 255) || ltb (cond t j 255) 16)) (sym (le-ltb j 16 not)) tt
+]
+
+module _ (n : ℕ) (few : n ≤ 16) where
+  -- the places from one on
+  abbrev pub places_from : List ℕ
+  places_from = chunk 0 16 (slice_range PLACES n 32)
+
+  places_long : length places_from ≡ 16
+  places_long = length-chunk 0 16 (slice_range PLACES n 32)
+      (omega (arith, length-take (32 - n) (drop n PLACES), length-drop n PLACES))
+
+  place_at : (k : ℕ) → k < 16 → get_or places_from k 0 ≡ place_of (n + k)
+  place_at k below =
+      get_or-chunk 0 16 (slice_range PLACES n 32) k 0 below
+      ∙ (ap (λ j. get_or (slice_range PLACES n 32) j 0) (zero-add k)
+      ∙ (get_or-take (32 - n) (drop n PLACES) k 0 (omega arith)
+      ∙ (get_or-drop n PLACES k 0 ∙ places_are (n + k) (omega arith))))
+
+  pub places_fit : SwzOk w8 16 16 0 places_from
+  places_fit = SwzOk-from_Each1 w8 16 1 16 0 places_from (omega arith) (omega (arith, places_long))
+      (Each1-from_get_or (λ j. T (zeroes 16 w8 j || ltb j 16)) places_from 0
+      (λ k below. subst (λ j. T (zeroes 16 w8 j || ltb j 16)) (sym (place_at k (omega (arith, places_long))))
+      (place_is (n + k))))
+
+  -- the lanes from one on, followed by zeros
+  pub lanes_after : (lanes : List ℕ) → length lanes ≡ 16
+      → HasLanes (swz_l w8 16 lanes 0 places_from) (λ k. get_or lanes (n + k) 0)
+  unfolding place_of
+  lanes_after lanes long = record {
+    long = length-swz_l w8 16 lanes 0 places_from ∙ places_long;
+    each = λ k below.
+        get_or-swz_l w8 16 lanes 0 places_from k (omega (arith, places_long))
+        ∙ (ap (λ j. cond (zeroes 16 w8 j) 0 (get_or lanes (16 * ((0 + k) / 16) + j) 0)) (place_at k below)
+        ∙ elim (cases_lt (n + k) 16) [
+          | inl before ↦
+              ap (λ t. cond (zeroes 16 w8 (cond t (n + k) 255)) 0
+              (get_or lanes (16 * ((0 + k) / 16) + cond t (n + k) 255) 0)) (lt-ltb (n + k) 16 before)
+              ∙ (ap (λ t. cond t 0 (get_or lanes (16 * ((0 + k) / 16) + (n + k)) 0)) (small (n + k) before)
+              ∙ ap (λ j. get_or lanes j 0) (omega arith))
+          | inr not ↦
+              ap (λ t. cond (zeroes 16 w8 (cond t (n + k) 255)) 0
+              (get_or lanes (16 * ((0 + k) / 16) + cond t (n + k) 255) 0)) (le-ltb (n + k) 16 not)
+              ∙ sym (get_or_past lanes (n + k) 0 (omega (arith, long)))
+        ]);
+  }
+
+-- the last 16 bytes before an end, without those before an offset
+pub rest_of_last : (haystack : List ℕ) (at end : ℕ) → at ≤ end → end < at + 16 → 16 ≤ end → end ≤ length haystack
+    → (last lanes : List ℕ) → last ≡ chunk (end - 16) 16 haystack
+    → HasLanes lanes (λ k. get_or last (16 - (end - at) + k) 0)
+    → HasLanes lanes (λ k. get_or (take end haystack) (at + k) 0)
+rest_of_last haystack at end ordered few enough inside last lanes is has = record {
+  long = has.long;
+  each = λ k below.
+      let n = 16 - (end - at) in
+      let place : end - 16 + (n + k) ≡ at + k = omega arith in
+      has.each k below
+      ∙ (ap (λ l. get_or l (n + k) 0) is
+      ∙ elim (cases_lt (n + k) 16) [
+        | inl before ↦
+            get_or-chunk (end - 16) 16 haystack (n + k) 0 before
+            ∙ (ap (λ j. get_or haystack j 0) place ∙ sym (get_or-take end haystack (at + k) 0 (omega arith)))
+        | inr not ↦
+            get_or_past (chunk (end - 16) 16 haystack) (n + k) 0
+            (omega (arith, length-chunk (end - 16) 16 haystack (omega arith)))
+            ∙ sym (get_or_past (take end haystack) (at + k) 0 (omega (arith, length-take end haystack)))
+      ]);
+}

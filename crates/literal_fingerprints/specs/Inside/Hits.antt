@@ -1,5 +1,6 @@
 -- Bytes of a haystack compared with rare ones.
-use Rattle.std.specs.Prelude.{ℕ, ◌==◌, if◌then◌else◌, Bool, true, false, bit_and, bit_or}
+use Rattle.std.specs.Prelude.{◌≡◌, ◌==◌, ◌+◌, ◌<◌, ◌≤◌, ℕ, List, if◌then◌else◌, Bool, true, false, bit_and, bit_or}
+use Rattle.std.specs.Prelude.{slice_index}
 use Rattle.literal_fingerprints.specs.declared.pair.RarePair.{RarePair}
 
 -- 255 if a byte is the rare one, once the bits of a mask are set in it, otherwise 0
@@ -17,3 +18,16 @@ pair_hit pair first_mask second_mask three apart text =
     with_between three
     (bit_and (hit pair.first.byte first_mask (text 0)) (hit pair.second.byte second_mask (text apart)))
     (hit pair.between first_mask (text 1))
+
+-- the hits of a pair of which the first byte is at an offset of a haystack
+abbrev pub hit_from : RarePair → ℕ → ℕ → Bool → ℕ → List ℕ → ℕ → ℕ
+hit_from pair first_mask second_mask three apart haystack k =
+    with_between three
+    (bit_and (hit pair.first.byte first_mask (slice_index haystack k))
+    (hit pair.second.byte second_mask (slice_index haystack (k + apart))))
+    (hit pair.between first_mask (slice_index haystack (k + 1)))
+
+-- no pair is, from an origin on, of which the second byte lies before an offset
+abbrev pub NoneHit : RarePair → ℕ → ℕ → Bool → ℕ → List ℕ → ℕ → ℕ → Type 0
+NoneHit pair first_mask second_mask three apart haystack origin at =
+    (k : ℕ) → origin ≤ k → k + apart < at → hit_from pair first_mask second_mask three apart haystack k ≡ 0

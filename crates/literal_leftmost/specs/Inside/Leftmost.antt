@@ -14,7 +14,7 @@ use Rattle.literal_leftmost.specs.declared.backward.Backward.{Backward}
 use Rattle.literal_leftmost.specs.declared.backward.PatternStart.{PatternStart}
 use Rattle.literal_leftmost.specs.declared.lanes.Block.{Block}
 use Rattle.literal_leftmost.specs.declared.lanes.Lanes.{Lanes}
-use Rattle.literal_leftmost.specs.declared.leftmost.LaneStates.{LaneStates}
+use Rattle.literal_leftmost.specs.declared.in_four.LaneStates.{LaneStates}
 use Rattle.literal_leftmost.specs.declared.lanes.Passed.{Passed}
 use Rattle.literal_leftmost.specs.declared.leftmost.Progress.{Progress}
 use Rattle.literal_leftmost.specs.declared.leftmost.TheConstants.{FIRST}

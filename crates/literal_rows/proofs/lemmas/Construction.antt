@@ -17,8 +17,8 @@ use Rattle.literal_rows.specs.Inside.Construction.{AreTexts, IsConstruction, IsS
 use Rattle.literal_rows.specs.Inside.Construction.{words_in, HasFailure, LeadBack, LeadOn, word_after}
 use Rattle.literal_rows.specs.Inside.Construction.{words_of}
 use Rattle.literal_rows.specs.declared.grow.Construction.{Construction}
-use Rattle.literal_rows.specs.declared.grow.State.{State}
-use Rattle.literal_rows.specs.declared.grow.Texts.{Texts}
+use Rattle.literal_rows.specs.declared.texts.State.{State}
+use Rattle.literal_rows.specs.declared.texts.Texts.{Texts}
 use Rattle.literal_rows.proofs.lemmas.Grown.{list_of_empty, none_listed, unbegun_by_list}
 use Rattle.std.proofs.lemmas.Option.{IfSome_then}
 use Rattle.literal_base.specs.Occurs.{pattern_at}

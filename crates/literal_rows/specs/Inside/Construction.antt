@@ -8,8 +8,8 @@ use Rattle.literal_rows.specs.Words.{ending, live_suffix, word_of}
 use Rattle.literal_rows.specs.Inside.Classes.{AreClasses, symbols_in}
 use Rattle.literal_rows.specs.Inside.Grown.{AreRows, AreWords, failure_of, list_for}
 use Rattle.literal_rows.specs.declared.grow.Construction.{Construction}
-use Rattle.literal_rows.specs.declared.grow.State.{State}
-use Rattle.literal_rows.specs.declared.grow.Texts.{Texts}
+use Rattle.literal_rows.specs.declared.texts.State.{State}
+use Rattle.literal_rows.specs.declared.texts.Texts.{Texts}
 
 -- the patterns as texts of symbols
 abbrev pub texts_of : Texts → List (List ℕ)

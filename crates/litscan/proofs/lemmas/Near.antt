@@ -21,7 +21,7 @@ use Rattle.litscan.specs.Printed.{Reads, StopsAtEnough, counts, printed_behind}
 use Rattle.litscan.specs.Scans.{PrintsRead, Scans, counting, is_all}
 use Rattle.litscan.specs.declared.context.Context.{Context}
 use Rattle.litscan.specs.declared.options.Options.{Options}
-use Rattle.litscan.specs.declared.scan.Scanned.{Scanned}
+use Rattle.litscan.specs.declared.selected.Scanned.{Scanned}
 use Rattle.litscan.proofs.lemmas.Groups.{none_left}
 use Rattle.litscan.proofs.lemmas.Marks.{marks_are}
 use Rattle.litscan.proofs.lemmas.Printing.{count-append}

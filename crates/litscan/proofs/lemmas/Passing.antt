@@ -28,7 +28,7 @@ use Rattle.litscan.specs.Options.{is_enough, is_silent, limit_of}
 use Rattle.litscan.specs.Printed.{PrintsUnlessSilent, Reads, StopsAtEnough, are_enough, counts}
 use Rattle.litscan.specs.declared.options.Options.{Options}
 use Rattle.litscan.specs.declared.passed.Passed.{Passed}
-use Rattle.litscan.specs.declared.scan.Scanned.{Scanned}
+use Rattle.litscan.specs.declared.selected.Scanned.{Scanned}
 use Rattle.std.specs.Option.{IfSome, IsSome, OnSome}
 use Rattle.std.specs.declared.io.ErrorKind.{ErrorKind}
 use Rattle.litscan.proofs.lemmas.Lines.{Other, lines_are, lines_of-feeds, lines_of-split}

@@ -4,7 +4,7 @@ use Rattle.std.proofs.Math.Nat.{mul-le-mul_right}
 use Rattle.literal_rows.specs.Inside.Construction.{texts_of, words_of}
 use Rattle.literal_rows.specs.States.{IsRowsLength}
 use Rattle.literal_rows.specs.Table.{Recognises, stride_of}
-use Rattle.literal_rows.specs.declared.grow.Texts.{Texts}
+use Rattle.literal_rows.specs.declared.texts.Texts.{Texts}
 use Rattle.literal_rows.proofs.lemmas.Construction.{recognises}
 use Rattle.literal_rows.proofs.lemmas.States.{few_states, states_made, symbols_below}
 use Rattle.literal_rows.proofs.grow.grow.Goals as goal

@@ -3,8 +3,8 @@ use Rattle.std.proofs.lemmas.List.FromFn.{length-range_with_len}
 use Rattle.std.specs.List.{range_with_len}
 use Rattle.literal_rows.specs.Inside.Construction.{AreTexts, IsConstruction}
 use Rattle.literal_rows.specs.Table.{nothing}
-use Rattle.literal_rows.specs.declared.grow.State.{State}
-use Rattle.literal_rows.specs.declared.grow.Texts.{Texts}
+use Rattle.literal_rows.specs.declared.texts.State.{State}
+use Rattle.literal_rows.specs.declared.texts.Texts.{Texts}
 use Rattle.literal_rows.proofs.lemmas.Construction.{grown_start}
 use Rattle.literal_rows.proofs.grow.start.Goals as goal
 

@@ -1,25 +1,9 @@
 use Rattle.std.proofs.Common.{◌≡◌, ◌+◌, ◌-◌, ◌%◌, ◌≤◌, ◌∙◌, ap, arith, get_or, inl, inr, rules, subst}
 use Rattle.std.proofs.lemmas.Bool.{cases_lt}
 use Rattle.literal_fingerprints.proofs.lemmas.Hits.{first_vector, has_earlier, has_pair, later_vector, no_pair_begins}
-use Rattle.literal_fingerprints.proofs.lemmas.Hits.{none_by, none_by_rest, none_more, wide_vector}
+use Rattle.literal_fingerprints.proofs.lemmas.Hits.{none_by, none_more, wide_vector}
 use Rattle.literal_fingerprints.specs.RarePairs.{HasPair}
 use Rattle.literal_fingerprints.proofs.pair.RarePair.scan.Goals as goal
-
-pub returns-then-span-lt-LANES-clause-passed : goal.returns-then-span-lt-LANES-clause-passed
-returns-then-span-lt-LANES-clause-passed c =
-    let pair = c.args.self.now in
-    let fm = c.args.first_mask in
-    let sm = c.args.second_mask in
-    let three = c.args.by_three in
-    let apart = c.args.apart in
-    let offset = c.min.result in
-    let haystack = c.args.haystack.now in
-    let start = c.args.span.start in
-    no_pair_begins pair fm sm three apart offset c.requires.first c.requires.second c.requires.three
-    c.requires.apart c.min.ensures haystack c.args.span c.requires.valid _
-    (none_by_rest pair fm sm three apart offset c.requires.first c.requires.second c.requires.three
-    c.requires.apart c.min.ensures haystack c.args.span start _
-    (λ k later below. absurd (omega arith)) c.scan_rest.ensures.none)
 
 pub returns-then-passed-lt-LANES-clause-passed : goal.returns-then-passed-lt-LANES-clause-passed
 returns-then-passed-lt-LANES-clause-passed c =
@@ -65,7 +49,7 @@ returns-then-passed-lt-LANES-clause-stops c =
         omega (arith, c.saturating_sub.ensures),
         has_earlier pair fm sm three apart offset c.requires.first c.requires.second c.requires.three
             c.requires.apart c.min.ensures haystack
-            start c.without_first.result lanes.0 passed c.if-passed-lt-LANES.true stops
+            start 16 c.without_first.result lanes.0 passed c.if-passed-lt-LANES.true stops
             (lanes.1 passed c.if-passed-lt-LANES.true stops) before,
       ))
       | inr after ↦
@@ -194,22 +178,6 @@ loop-at-preserved c =
       scanned = search rules;
     }
 
-pub returns-then-span-at-lt-LANES-clause-passed : goal.returns-then-span-at-lt-LANES-clause-passed
-returns-then-span-at-lt-LANES-clause-passed c =
-    let pair = c.args.self.now in
-    let fm = c.args.first_mask in
-    let sm = c.args.second_mask in
-    let three = c.args.by_three in
-    let apart = c.args.apart in
-    let offset = c.min.result in
-    let haystack = c.args.haystack.now in
-    let start = c.args.span.start in
-    no_pair_begins pair fm sm three apart offset c.requires.first c.requires.second c.requires.three
-    c.requires.apart c.min.ensures haystack c.args.span c.requires.valid _
-    (none_by_rest pair fm sm three apart offset c.requires.first c.requires.second c.requires.three
-    c.requires.apart c.min.ensures haystack c.args.span c.loop-at.at _
-    c.loop-at.invariant.none c.scan_rest-then-span-at-lt-LANES.ensures.none)
-
 pub returns-then-passed-lt-LANES-2-clause-passed : goal.returns-then-passed-lt-LANES-2-clause-passed
 returns-then-passed-lt-LANES-2-clause-passed c =
     let pair = c.args.self.now in
@@ -267,8 +235,8 @@ returns-then-passed-lt-LANES-2-clause-stops c =
     (c.zeros_before-passed-2.ensures.stops c.if-passed-lt-LANES-2.true)
     (omega (arith, before.low, c.requires.apart, c.min.ensures)))
 
-pub returns-clause-passed : goal.returns-clause-passed
-returns-clause-passed c =
+pub scan_last-requires-2-clause-none : goal.scan_last-requires-2-clause-none
+scan_last-requires-2-clause-none c =
     let pair = c.args.self.now in
     let fm = c.args.first_mask in
     let sm = c.args.second_mask in
@@ -287,10 +255,6 @@ returns-clause-passed c =
       long = c.back_half-before.ensures.long;
       each = λ k below. c.back_half-before.ensures.each k below ∙ before.before.each k below;
     }) c.load-here-2.ensures.lanes c.pairs-hits-2.ensures in
-    let none = none_more pair fm sm three apart haystack start 16 at
+    none_more pair fm sm three apart haystack start 16 at
     c.pairs-hits-2.result lanes after 16 (omega arith)
-    (λ k below. c.zeros_before-passed-2.ensures.zero k (omega (arith, c.if-passed-lt-LANES-2.false))) before.none in
-    no_pair_begins pair fm sm three apart offset c.requires.first c.requires.second c.requires.three
-    c.requires.apart c.min.ensures haystack c.args.span c.requires.valid _
-    (none_by_rest pair fm sm three apart offset c.requires.first c.requires.second c.requires.three
-    c.requires.apart c.min.ensures haystack c.args.span (at + 16) _ none c.scan_rest-2.ensures.none)
+    (λ k below. c.zeros_before-passed-2.ensures.zero k (omega (arith, c.if-passed-lt-LANES-2.false))) before.none

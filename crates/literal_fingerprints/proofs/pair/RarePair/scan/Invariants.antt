@@ -1,6 +1,6 @@
 use Rattle.std.proofs.Common.{◌≡◌, ◌+◌, ◌-◌, ◌≤◌, get_or}
 use Rattle.literal_fingerprints.specs.Inside.Lanes.{HasBack}
-use Rattle.literal_fingerprints.proofs.lemmas.Hits.{NoneHit}
+use Rattle.literal_fingerprints.specs.Inside.Hits.{NoneHit}
 use Rattle.literal_fingerprints.proofs.pair.RarePair.scan.Given as goal
 
 abbrev pub invariant-loop-at : goal.invariant-loop-at

@@ -7,38 +7,25 @@ use Rattle.literal_leftmost.specs.SearchValue.{first_part}
 use Rattle.literal_leftmost.proofs.lemmas.ScanIn.{for_scan, owed_is}
 use Rattle.literal_leftmost.proofs.backward.Backward.first_begun.Goals as goal
 
--- a search begins at the start of its span
-begins : (b : Backward) (span : Span) (part old : ℕ) → span.start ≤ span.end → part ≡ first_part b.table.longest
-    → IsProgress b span 0 old old (record { at = span.start; credit = 0; part = part })
-begins b span part old ordered part_is = record {
-  after = omega arith;
-  inside = ordered;
-  some = omega (arith, part_is);
-  long = omega (arith, part_is);
-  near = λ _. omega (arith, part_is);
-  least = omega arith;
-  most = omega arith;
-}
-
 pub pass_on-progress-requires-clause-for_patterns : goal.pass_on-progress-requires-clause-for_patterns
 pass_on-progress-requires-clause-for_patterns c = for_scan c.args.self.now c.scan_in.result c.scan_in.ensures
 
 pub returns-then-progress-span-clause-most : goal.returns-then-progress-span-clause-most
 returns-then-progress-span-clause-most c =
-    let progress = c.pass_on-progress.ensures.progress c.args.tally.now.scanned (begins c.args.self.now c.args.span
-    c.max.result c.args.tally.now.scanned c.requires.valid.ordered (omega arith)) in
+    let progress = c.pass_on-progress.ensures.progress c.args.tally.now.scanned
+    (c.begin_at-begin.ensures.begins c.args.tally.now.scanned) in
     omega (arith, progress.most, c.if-progress-span.true)
 
 pub returns-then-progress-span-clause-counted : goal.returns-then-progress-span-clause-counted
 returns-then-progress-span-clause-counted c =
-    let progress = c.pass_on-progress.ensures.progress c.args.tally.now.scanned (begins c.args.self.now c.args.span
-    c.max.result c.args.tally.now.scanned c.requires.valid.ordered (omega arith)) in
+    let progress = c.pass_on-progress.ensures.progress c.args.tally.now.scanned
+    (c.begin_at-begin.ensures.begins c.args.tally.now.scanned) in
     omega (arith, progress.least, c.if-progress-span.true)
 
 pub first_after-requires-clause-progress : goal.first_after-requires-clause-progress
 first_after-requires-clause-progress c =
-    let progress = c.pass_on-progress.ensures.progress c.args.tally.now.scanned (begins c.args.self.now c.args.span
-    c.max.result c.args.tally.now.scanned c.requires.valid.ordered (omega arith)) in (
+    let progress = c.pass_on-progress.ensures.progress c.args.tally.now.scanned
+    (c.begin_at-begin.ensures.begins c.args.tally.now.scanned) in (
       c.args.tally.now.scanned,
       subst (λ n. IsProgress c.args.self.now c.args.span n c.args.tally.now.scanned
           c.pass_on-progress.new.tally.scanned c.pass_on-progress.result)
@@ -47,8 +34,8 @@ first_after-requires-clause-progress c =
 
 pub returns-clause-most : goal.returns-clause-most
 returns-clause-most c =
-    let progress = c.pass_on-progress.ensures.progress c.args.tally.now.scanned (begins c.args.self.now c.args.span
-    c.max.result c.args.tally.now.scanned c.requires.valid.ordered (omega arith)) in
+    let progress = c.pass_on-progress.ensures.progress c.args.tally.now.scanned
+    (c.begin_at-begin.ensures.begins c.args.tally.now.scanned) in
     let after = subst (λ n. IsProgress c.args.self.now c.args.span n c.args.tally.now.scanned
     c.pass_on-progress.new.tally.scanned c.pass_on-progress.result)
     (sym (owed_is c.args.self.now.prints.now c.scan_in.result c.scan_in.ensures)) progress in
@@ -56,8 +43,8 @@ returns-clause-most c =
 
 pub returns-clause-counted : goal.returns-clause-counted
 returns-clause-counted c =
-    let progress = c.pass_on-progress.ensures.progress c.args.tally.now.scanned (begins c.args.self.now c.args.span
-    c.max.result c.args.tally.now.scanned c.requires.valid.ordered (omega arith)) in
+    let progress = c.pass_on-progress.ensures.progress c.args.tally.now.scanned
+    (c.begin_at-begin.ensures.begins c.args.tally.now.scanned) in
     let after = subst (λ n. IsProgress c.args.self.now c.args.span n c.args.tally.now.scanned
     c.pass_on-progress.new.tally.scanned c.pass_on-progress.result)
     (sym (owed_is c.args.self.now.prints.now c.scan_in.result c.scan_in.ensures)) progress in

@@ -7,8 +7,8 @@ use Rattle.literal_rows.specs.States.{AreStates}
 use Rattle.literal_rows.specs.Table.{LeadsTo, stride_of}
 use Rattle.literal_rows.specs.Words.{begins_one}
 use Rattle.literal_rows.specs.declared.grow.Construction.{Construction}
-use Rattle.literal_rows.specs.declared.grow.State.{State}
-use Rattle.literal_rows.specs.declared.grow.Texts.{Texts}
+use Rattle.literal_rows.specs.declared.texts.State.{State}
+use Rattle.literal_rows.specs.declared.texts.Texts.{Texts}
 use Rattle.literal_rows.proofs.lemmas.Behind.{live_begun, live_unbegun}
 use Rattle.literal_rows.proofs.lemmas.Grown.{begun_by_length, unbegun_by_list}
 use Rattle.literal_rows.proofs.lemmas.Construction.{words_length, words_same}

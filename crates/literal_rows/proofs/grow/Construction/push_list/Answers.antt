@@ -1,7 +1,7 @@
 use Rattle.std.proofs.Common.{◌<◌, ◌∙◌, ◌++◌, ap, length, ℕ, sym, subst}
 use Rattle.std.specs.List.{All}
 use Rattle.literal_rows.specs.Inside.Construction.{IsConstruction, list_in, texts_of}
-use Rattle.literal_rows.specs.declared.grow.State.{State}
+use Rattle.literal_rows.specs.declared.texts.State.{State}
 use Rattle.literal_rows.proofs.lemmas.Grown.{list_by_list, whole_by_list}
 use Rattle.literal_rows.proofs.lemmas.Construction.{after_is, grown_lists, list_at, long_word}
 use Rattle.literal_rows.proofs.grow.Construction.push_list.Goals as goal

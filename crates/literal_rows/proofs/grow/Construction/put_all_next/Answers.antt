@@ -3,7 +3,7 @@ use Rattle.literal_rows.specs.Inside.Grown.{symbols_after}
 use Rattle.literal_rows.specs.Inside.Construction.{texts_of, words_of}
 use Rattle.literal_rows.specs.Table.{stride_of}
 use Rattle.literal_rows.specs.Words.{word_of}
-use Rattle.literal_rows.specs.declared.grow.Texts.{Texts}
+use Rattle.literal_rows.specs.declared.texts.Texts.{Texts}
 use Rattle.literal_rows.proofs.lemmas.Construction.{longer_same, passed_over, words_length}
 use Rattle.literal_rows.proofs.lemmas.States.{made_more}
 use Rattle.literal_rows.proofs.grow.Construction.put_all_next.Goals as goal

@@ -1,8 +1,8 @@
 use Rattle.std.proofs.Common.{◌<◌, ◌≤◌, ◌∙◌, arith, length, ℕ, sym, subst}
 use Rattle.literal_rows.proofs.lemmas.Grown.{added_more, found_none, found_yet, mapped_at}
 use Rattle.literal_rows.proofs.lemmas.Grown.{longer_kept, longer_long, numbers_more}
-use Rattle.literal_rows.proofs.grow.Texts.push_longer.Goals.{else-branch, then-branch}
-use Rattle.literal_rows.proofs.grow.Texts.push_longer.Goals as goal
+use Rattle.literal_rows.proofs.texts.Texts.push_longer.Goals.{else-branch, then-branch}
+use Rattle.literal_rows.proofs.texts.Texts.push_longer.Goals as goal
 
 pub push_if_longer-requires-clause-after : goal.push_if_longer-requires-clause-after
 push_if_longer-requires-clause-after c = grind (arith, mapped_at)

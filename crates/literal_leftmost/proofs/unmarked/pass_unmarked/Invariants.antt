@@ -1,5 +1,5 @@
 use Rattle.std.proofs.Common.{ℕ, ◌-◌, ◌<◌, ◌≤◌, ◌^◌, slice_index}
-use Rattle.literal_leftmost.proofs.backward.pass_unmarked.Given as goal
+use Rattle.literal_leftmost.proofs.unmarked.pass_unmarked.Given as goal
 
 abbrev pub invariant-loop-at : goal.invariant-loop-at
 invariant-loop-at l = record {

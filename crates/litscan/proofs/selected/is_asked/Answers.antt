@@ -1,8 +1,8 @@
 use Rattle.std.proofs.Common.{◌≡◌, ◌∙◌, false, sym}
 use Rattle.std.proofs.lemmas.Bool.{cond-false}
 use Rattle.litscan.proofs.lemmas.Asked.{one_asked_if}
-use Rattle.litscan.proofs.scan.is_asked.Goals as goal
-use Rattle.litscan.proofs.scan.is_asked.Goals.{else-options, then-options}
+use Rattle.litscan.proofs.selected.is_asked.Goals as goal
+use Rattle.litscan.proofs.selected.is_asked.Goals.{else-options, then-options}
 
 pub returns-then-not-options : goal.returns-then-not-options
 returns-then-not-options c =

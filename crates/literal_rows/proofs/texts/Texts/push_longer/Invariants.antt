@@ -4,7 +4,7 @@ use Rattle.std.specs.Option.{option_or}
 use Rattle.literal_base.specs.Occurs.{pattern_at}
 use Rattle.literal_rows.specs.Inside.Grown.{goes_on}
 use Rattle.literal_rows.specs.Inside.Construction.{texts_of}
-use Rattle.literal_rows.proofs.grow.Texts.push_longer.Given as goal
+use Rattle.literal_rows.proofs.texts.Texts.push_longer.Given as goal
 
 abbrev pub invariant-loop-index : goal.invariant-loop-index
 invariant-loop-index l =

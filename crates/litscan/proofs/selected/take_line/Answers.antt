@@ -3,7 +3,7 @@ use Rattle.std.proofs.KnownBytes.{Appends-nil}
 use Rattle.std.proofs.lemmas.Result.{IfOk-weaker}
 use Rattle.litscan.specs.Printed.{printed_matches}
 use Rattle.litscan.proofs.lemmas.Printing.{counts_once, prints_matches, prints_nothing, prints_whole}
-use Rattle.litscan.proofs.scan.take_line.Goals as goal
+use Rattle.litscan.proofs.selected.take_line.Goals as goal
 
 pub returns-then-prints_nothing-clause-printed : goal.returns-then-prints_nothing-clause-printed
 returns-then-prints_nothing-clause-printed g c = (
