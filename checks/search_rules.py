@@ -21,7 +21,7 @@ TEST_CRATES = (
 
 # Crates whose code may have a haystack in hand.
 SEARCH_CRATES = ("literal_packed", "literal_fingerprints", "literal_prefilters", "literal_rows", "literal_leftmost",
-                 "literal_occurrences", "literal_words", "literal_search")
+                 "literal_occurrences", "literal_words", "literal_pieces", "literal_search")
 
 HERE = " (checks/search_rules.py)"
 

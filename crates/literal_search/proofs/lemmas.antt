@@ -2,14 +2,8 @@
 pub mod BackTables
 pub mod Callers
 pub mod NoPattern
-pub mod OverlappingStreamed
-pub mod OverlappingStreams
 pub mod Relabelled
 pub mod Replaced
 pub mod ReplacedWords
-pub mod Rewritten
-pub mod RewrittenBy
-pub mod Sought
-pub mod StreamCounts
-pub mod Streams
+pub use Rattle.literal_pieces.proofs.lemmas.RewrittenBy
 pub mod Texts

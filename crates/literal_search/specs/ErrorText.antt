@@ -6,8 +6,7 @@ use Rattle.literal_search.specs.declared.BuildError.TheVariants.{EmptyPattern, O
 use Rattle.literal_search.specs.declared.BuildError.TheVariants.{TooManyStates}
 use Rattle.literal_search.specs.declared.replace.ReplaceError.{ReplaceError}
 use Rattle.literal_search.specs.declared.replace.ReplaceError.TheVariants as replace
-use Rattle.literal_search.specs.declared.replace_stream.ReplaceStreamError.{ReplaceStreamError}
-use Rattle.literal_search.specs.declared.replace_stream.ReplaceStreamError.TheVariants as stream
+pub use Rattle.literal_pieces.specs.ErrorText.{replace_stream_error_text}
 pub use Rattle.literal_rows.specs.ErrorText.{array_too_short_text}
 
 -- the message that says why there is no automaton
@@ -21,10 +20,3 @@ build_error_text TooManyStates = codes "the patterns need too many states"
 abbrev pub replace_error_text : ReplaceError → List ℕ
 replace_error_text replace.NotOneForEach = codes "there is not one replacement for each pattern"
 replace_error_text replace.OutOfMemory = codes "out of memory"
-
--- the message that says why a text is not read and written with its matches replaced
-abbrev pub replace_stream_error_text : ReplaceStreamError → List ℕ
-replace_stream_error_text stream.NotOneForEach = codes "there is not one replacement for each pattern"
-replace_stream_error_text stream.OutOfMemory = codes "out of memory"
-replace_stream_error_text (stream.ReadFailed error) = codes "the text could not be read"
-replace_stream_error_text (stream.WriteFailed error) = codes "the text could not be written"

@@ -10,7 +10,7 @@ pub use Rattle.literal_leftmost.specs.MatchesValue
 pub mod Memory
 pub mod Overlapping
 pub use Rattle.literal_occurrences.specs.OverlappingMatchesValue
-pub mod OverlappingStream
+pub use Rattle.literal_pieces.specs.OverlappingStream
 pub use Rattle.literal_rows.specs.Patterns
 pub mod PatternsIter
 pub use Rattle.literal_leftmost.specs.Prepared
@@ -19,11 +19,11 @@ pub use Rattle.literal_occurrences.specs.PreparedStates
 pub use Rattle.literal_words.specs.PreparedWords
 pub mod RefusedList
 pub mod Replaced
-pub mod ReplacedStream
+pub use Rattle.literal_pieces.specs.ReplacedStream
 pub mod SearchBuilderValue
 pub mod SearchValue
 pub use Rattle.literal_rows.specs.States
-pub mod Stream
+pub use Rattle.literal_pieces.specs.Stream
 pub use Rattle.literal_rows.specs.Table
 pub use Rattle.literal_words.specs.WholeWords
 pub use Rattle.literal_words.specs.WordText

@@ -1,7 +1,8 @@
 //! Search for any number of literals at once, with ASCII case kept or ignored. [`Search`] finds the leftmost match, or
 //! all matches that do not overlap; [`Overlapping`] finds every occurrence, and [`WholeWords`] whole words alone. They
-//! own their patterns, and search by `literal_leftmost`, `literal_occurrences` and `literal_words`, whose public types
-//! are exported here too. Begin to read with [`Search`], and with `specs/SearchValue.antt` of `literal_leftmost`.
+//! own their patterns, and search by `literal_leftmost`, `literal_occurrences`, `literal_words` and `literal_pieces`,
+//! whose public types are exported here too. Begin to read with [`Search`], and with `specs/SearchValue.antt` of
+//! `literal_leftmost`.
 #![tactic(auto)]
 
 ghost use Rattle.std.specs.Prelude.{◌≡◌, ◌+◌, ◌-◌, ◌^◌, ◌<◌, ◌++◌, ◌∷◌, [], length, map, sum_by, IfErr, IfOk};
@@ -14,7 +15,6 @@ pub mod laws;
 mod overlapping;
 mod overlapping_stream;
 mod patterns;
-mod reading;
 mod replace;
 mod replace_stream;
 mod search;
@@ -22,7 +22,6 @@ mod sought;
 mod stream;
 mod texts;
 mod whole_words;
-mod window;
 mod word_matches;
 mod word_stream;
 
@@ -40,6 +39,8 @@ pub use literal_occurrences::prepared_overlapping::{
     PreparedOverlapping, PreparedOverlappingMatches,
 };
 pub use literal_occurrences::prepared_states::Walked;
+pub use literal_pieces::overlapping_stream::OverlappingStreamMatches;
+pub use literal_pieces::replace_stream::ReplaceStreamError;
 pub use literal_rows::array::ArrayTooShort;
 pub use literal_rows::damaged::Damaged;
 use literal_rows::grow::GrowError;
@@ -48,10 +49,8 @@ pub use literal_words::prepared_words::{
 };
 pub use literal_words::word_text::WordText;
 pub use overlapping::{Overlapping, OverlappingMatches};
-pub use overlapping_stream::OverlappingStreamMatches;
 pub use patterns::Patterns;
 pub use replace::ReplaceError;
-pub use replace_stream::ReplaceStreamError;
 pub use search::{Matches, Search, Starts};
 use std::alloc::{AllocError, Global};
 use std::error::Error;

@@ -3,10 +3,10 @@ ghost use Rattle.std.specs.Prelude.{◌≡◌, IfOk};
 ghost use Rattle.literal_search.specs.Stream.{GivesWordStreamed, ScansWordsStreamed, word_stream_of};
 
 use crate::WholeWords;
-use crate::sought::Sought;
-use crate::stream::Stream;
 use literal_base::Match;
 use literal_base::count::Tally;
+use literal_pieces::sought::Sought;
+use literal_pieces::stream::Stream;
 use std::alloc::{AllocError, Global};
 use std::io::{self, Read};
 use std::marker::Model;
@@ -34,7 +34,7 @@ impl WholeWords {
     ) -> Result<WholeWordStreamMatches<'_, R>, AllocError>
         ensures { IfOk result (λ m. m ≡ word_stream_of self.now (R.remaining reader)) }
     {
-        let stream = Stream::new(alloc, Sought::Words(self), reader)?;
+        let stream = Stream::new(alloc, &Sought::by(self), reader)?;
         Ok(WholeWordStreamMatches {
             words: self,
             stream,
@@ -52,24 +52,20 @@ pub struct WholeWordStreamMatches<'s, R: Read + Drop> {
 }
 
 impl<'s, R: Read + Drop> Model for WholeWordStreamMatches<'s, R> {
-    ghost use Rattle.std.specs.Prelude.{◌≡◌, false};
     ghost use Rattle.literal_search.specs.Stream.{WordStreamValue};
-    ghost use Rattle.literal_search.specs.Inside.Stream.{AreHeldFrom, IsSearchIn, IsSoundStream, reach_of};
-    ghost use Rattle.literal_search.specs.Inside.Stream.{stream_value};
-    ghost use Rattle.literal_search.specs.declared.sought.Sought.TheVariants.{Words};
+    ghost use Rattle.literal_pieces.specs.Inside.Sought.{by_words};
+    ghost use Rattle.literal_pieces.specs.Inside.Stream.{GoesOn, stream_value};
 
     ghost Value = { WordStreamValue };
 
     ghost view = { λ m. record {
-      stream = stream_value (Words m.words) m.stream.window m.stream.at m.stream.ahead m.stream.reading
+      stream = stream_value (by_words m.words.now) m.stream.window m.stream.at m.stream.ahead m.stream.reading
           (R.remaining m.stream.reader) m.stream.is_over;
       word_bytes = m.words.now.word_bytes;
     } };
 
-    ghost invariant = { λ m. m.stream.is_over ≡ false
-        → IsSoundStream (reach_of (Words m.words)) m.stream.window m.stream.reading (R.remaining m.stream.reader)
-        × AreHeldFrom 1 m.stream.at m.stream.window
-        × IsSearchIn (Words m.words) m.stream.window m.stream.reading m.stream.at m.stream.ahead };
+    ghost invariant = { λ m. GoesOn (by_words m.words.now) m.stream.window m.stream.at m.stream.ahead
+        m.stream.reading (R.remaining m.stream.reader) m.stream.is_over };
 }
 
 impl<'s, R: Read + Drop> WholeWordStreamMatches<'s, R> {
@@ -80,7 +76,7 @@ impl<'s, R: Read + Drop> WholeWordStreamMatches<'s, R> {
         ensures gives { GivesWordStreamed self.old result self.new }
         ensures scans { ScansWordsStreamed self.old self.new tally.old tally.new }
     {
-        self.stream.next(Sought::Words(self.words), tally)
+        self.stream.next(&Sought::by(self.words), tally)
     }
 }
 

@@ -6,9 +6,9 @@ use Rattle.literal_base.specs.Greedy.{IsGreedy}
 use Rattle.literal_base.specs.MatchValue.{MatchValue}
 use Rattle.literal_search.specs.SearchValue.{SearchValue}
 use Rattle.literal_search.specs.Stream.{GivesAhead, GivesStreamed, IsLeftmostFrom, OccursFrom, StreamValue, stream_of}
-use Rattle.literal_search.specs.Inside.Stream.{GoesThrough}
-use Rattle.literal_search.proofs.lemmas.Streams.{GoesOverAll, read_all, streamed_all, streamed_failed, streamed_first}
-use Rattle.literal_search.proofs.lemmas.Streams.{streamed_len, streamed_to}
+use Rattle.literal_pieces.specs.Inside.Stream.{GoesThrough}
+use Rattle.literal_pieces.proofs.lemmas.Streams.{GoesOverAll, read_all, streamed_all, streamed_failed, streamed_first}
+use Rattle.literal_pieces.proofs.lemmas.Streams.{streamed_len, streamed_to}
 use Rattle.literal_search.proofs.laws.streams_are_greedy.Goals as goal
 
 module _ (search : SearchValue) where

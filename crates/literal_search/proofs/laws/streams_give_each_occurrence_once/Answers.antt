@@ -1,4 +1,4 @@
-use Rattle.literal_search.proofs.lemmas.OverlappingStreamed.{given_all, given_read, read_all}
+use Rattle.literal_pieces.proofs.lemmas.OverlappingStreamed.{given_all, given_read, read_all}
 use Rattle.literal_search.proofs.laws.streams_give_each_occurrence_once.Goals as goal
 
 pub returns-clause-whole : goal.returns-clause-whole

@@ -10,7 +10,7 @@ use Rattle.literal_search.specs.Stream.{ScansMore}
 use Rattle.literal_search.specs.SearchValue.{ScansListAtMost, SearchValue, longest_of, most_scanned}
 use Rattle.literal_search.specs.Stream.{GivesStreamed, GivesStreamedCounted, StreamValue, bytes_read}
 use Rattle.literal_search.specs.Stream.{stream_of}
-use Rattle.literal_search.proofs.lemmas.StreamCounts.{scanned_parts, scans_on}
+use Rattle.literal_pieces.proofs.lemmas.StreamCounts.{scanned_parts, scans_on}
 use Rattle.literal_search.proofs.laws.streams_scan_at_most.Goals as goal
 
 -- a stream of this search has looked up at most twice what a list of all bytes that were read may look up

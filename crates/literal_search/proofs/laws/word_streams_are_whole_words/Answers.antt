@@ -8,9 +8,9 @@ use Rattle.literal_search.specs.SearchValue.{SearchValue}
 use Rattle.literal_search.specs.Stream.{GivesAhead, GivesWordStreamed, IsFirstWordFrom, OccursAloneFrom, StreamValue}
 use Rattle.literal_search.specs.Stream.{WordStreamValue, stream_of, word_stream_of}
 use Rattle.literal_search.specs.WholeWords.{AreWholeWords, WholeWordsValue}
-use Rattle.literal_search.specs.Inside.Stream.{GoesThrough}
-use Rattle.literal_search.proofs.lemmas.Streams.{GoesOverAll, read_all, streamed_all, streamed_failed, streamed_first}
-use Rattle.literal_search.proofs.lemmas.Streams.{streamed_len, streamed_to}
+use Rattle.literal_pieces.specs.Inside.Stream.{GoesThrough}
+use Rattle.literal_pieces.proofs.lemmas.Streams.{GoesOverAll, read_all, streamed_all, streamed_failed, streamed_first}
+use Rattle.literal_pieces.proofs.lemmas.Streams.{streamed_len, streamed_to}
 use Rattle.literal_search.proofs.laws.word_streams_are_whole_words.Goals as goal
 
 module _ (words : WholeWordsValue) where

@@ -6,4 +6,4 @@ pub returns : goal.returns
 returns g c =
     let words = c.args.self.now in
     ap (λ (s : StreamValue). let m : WordStreamValue = record { stream = s; word_bytes = words.word_bytes } in m)
-    c.in_ok-stream.ensures.first
+    (rw c.by.ensures at c.in_ok-stream.ensures.first)
