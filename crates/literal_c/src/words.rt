@@ -1,10 +1,8 @@
 //! Whole words by an array that C lends.
-ghost use Rattle.std.specs.Prelude.{◌≡◌, ◌+◌, ◌-◌, ◌<◌, ◌≤◌, IfOk, IfSome, MatchResult, length, slice_index};
+ghost use Rattle.std.specs.Prelude.{◌≡◌, ◌+◌, ◌-◌, ◌≤◌, IfOk, MatchResult, length, slice_index};
 ghost use Rattle.std.specs.Result.{IsOkAnd};
 ghost use Rattle.literal_base.specs.Occurs.{IsValidSpan};
-ghost use Rattle.literal_search.specs.Prepared.{LiesIn};
-ghost use Rattle.literal_search.specs.PreparedWords.{ForWholeWords};
-ghost use Rattle.literal_search.specs.WholeWords.{IsFirstAloneBy};
+ghost use Rattle.literal_search.specs.PreparedWords.{FindsLentWord, ForWholeWords};
 ghost use Rattle.literal_c.specs.Answers.{MayBePage};
 ghost use Rattle.literal_c.specs.Inside.Given.{AreWordsBy};
 ghost use Rattle.literal_c.specs.Words.{HasWordParts, IsWordCountBy, IsWordPageBy};
@@ -32,11 +30,7 @@ pub fn find_word(
 ) -> Result<Option<Match>, Damaged>
     requires valid { IsValidSpan haystack.now span }
     requires sides { length sides.now ≡ length haystack.now }
-    ensures prepared { ForWholeWords words.now (λ w. IsOkAnd result
-        (IsFirstAloneBy w haystack.now sides.now span)) }
-    ensures inside { IfOk result (λ answer. IfSome answer (LiesIn span)) }
-    ensures pattern { IfOk result (λ answer. IfSome answer
-        (λ found. found.pattern < slice_index words.now.numbers 3)) }
+    ensures { FindsLentWord words.now haystack.now sides.now span result }
 {
     if words.first_candidate_in(haystack, span) == span.end {
         return Ok(None);

@@ -6,7 +6,7 @@ ghost use Rattle.literal_base.specs.Given.{CanBeTaken};
 ghost use Rattle.literal_base.specs.Greedy.{IsGreedy};
 ghost use Rattle.literal_base.specs.Leftmost.{IsLeftmost};
 ghost use Rattle.literal_base.specs.Occurs.{IsValidSpan, Occurs, whole_of};
-ghost use Rattle.literal_search.specs.LookUps.{no_look_ups};
+ghost use Rattle.literal_search.specs.MatchesValue.{matches_of};
 ghost use Rattle.literal_search.specs.SearchValue.{CanBeKept, GivesAll, MayRefuseList, NeedTooManyReversed};
 ghost use Rattle.literal_search.specs.SearchValue.{RefusesSearch, search_by};
 ghost use Rattle.literal_search.specs.Stream.{stream_of};
@@ -108,13 +108,7 @@ impl FoldedSearch {
 
     /// Returns an iterator over all matches in the text that do not overlap, like [`Search::find_iter`].
     pub fn find_iter<'s, 't>(&'s self, text: &'t FoldedText) -> Matches<'s, 't>
-        ensures { result ≡ record {
-          search = kept_case self.now;
-          haystack = text.now;
-          span = whole_of text.now;
-          at = 0;
-          look_ups = no_look_ups;
-        } }
+        ensures { result ≡ matches_of (kept_case self.now) text.now }
     {
         self.search.find_iter(text.as_bytes())
     }

@@ -4,9 +4,9 @@ use Rattle.std.specs.Iterator.{Count, at_most}
 use Rattle.literal_base.specs.Counts.{Counts}
 use Rattle.literal_base.specs.Leftmost.{IsLeftmost}
 use Rattle.literal_base.specs.MatchValue.{MatchValue}
-use Rattle.literal_base.specs.Occurs.{between}
+use Rattle.literal_base.specs.Occurs.{between, whole_of}
 use Rattle.literal_base.specs.declared.search.Span.{Span}
-use Rattle.literal_leftmost.specs.LookUps.{LookUps, LooksOn, ScansNext}
+use Rattle.literal_leftmost.specs.LookUps.{LookUps, LooksOn, ScansNext, no_look_ups}
 use Rattle.literal_leftmost.specs.SearchValue.{SearchValue, longest_of}
 
 -- a `Matches` or `Starts` as contracts see it: the search, the haystack, the span, the offset from which it continues,
@@ -17,6 +17,15 @@ pub record MatchesValue : Type 0 where
   pub span : Span
   pub at : ℕ
   pub look_ups : LookUps
+
+-- an iteration over the matches in a span, which has not begun
+abbrev pub matches_in : SearchValue → List ℕ → Span → MatchesValue
+matches_in search haystack span =
+    record { search = search; haystack = haystack; span = span; at = span.start; look_ups = no_look_ups }
+
+-- the same in a whole haystack
+abbrev pub matches_of : SearchValue → List ℕ → MatchesValue
+matches_of search haystack = matches_in search haystack (whole_of haystack)
 
 -- where `Matches` continues: at the end of the match, or at the end of the span
 abbrev pub offset_at_end : Span → Option MatchValue → ℕ

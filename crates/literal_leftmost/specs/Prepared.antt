@@ -1,7 +1,9 @@
 -- A search for leftmost matches as the numbers of a lent array.
-use Rattle.std.specs.Prelude.{◌≡◌, ◌+◌, ◌<◌, ◌≤◌, ℕ, List, length, map}
-use Rattle.std.specs.Prelude.{slice_index, slice_range}
+use Rattle.std.specs.Prelude.{◌≡◌, ◌+◌, ◌<◌, ◌≤◌, ℕ, IfOk, IfSome, List, MatchResult, None, Option, Result, length}
+use Rattle.std.specs.Prelude.{map, slice_index, slice_range}
+use Rattle.std.specs.Result.{IsOkAnd}
 use Rattle.literal_base.specs.MatchValue.{MatchValue}
+use Rattle.literal_base.specs.Occurs.{between}
 use Rattle.literal_base.specs.declared.search.Span.{Span}
 use Rattle.literal_base.specs.declared.packed.MatchKind.TheVariants.{LeftmostLongest}
 use Rattle.literal_rows.specs.Links.{AreLinks}
@@ -14,8 +16,9 @@ use Rattle.literal_rows.specs.declared.classes.TheConstants.{CLASSES_LEN}
 use Rattle.literal_rows.specs.declared.array.ArrayTooShort.{ArrayTooShort}
 use Rattle.literal_rows.specs.declared.array.TheConstants.{LENGTHS_AT, PREPARED_VERSION}
 use Rattle.literal_rows.specs.declared.array.TheConstants.{SCAN_LEN}
-use Rattle.literal_leftmost.specs.LookUps.{LookUps}
-use Rattle.literal_leftmost.specs.MatchesValue.{MatchesValue}
+use Rattle.literal_rows.specs.declared.damaged.Damaged.{Damaged}
+use Rattle.literal_leftmost.specs.LookUps.{LookUps, no_look_ups}
+use Rattle.literal_leftmost.specs.MatchesValue.{GivesMatch, MatchesValue, offset_at_end}
 pub use Rattle.literal_rows.specs.Arrays.{ArePrints, AreShort, Checks, HasParts, WritesNumbers}
 unfoldable pub use Rattle.literal_rows.specs.Arrays.{check_of}
 pub use Rattle.literal_rows.specs.Arrays.{check_of_four, check_with, checks_with, classes_end, classes_in}
@@ -141,3 +144,20 @@ pub record PreparedMatchesValue : Type 0 where
 abbrev pub matches_for : SearchValue → PreparedMatchesValue → MatchesValue
 matches_for search m =
     record { search = search; haystack = m.haystack; span = m.span; at = m.at; look_ups = m.look_ups }
+
+-- an iteration over the matches in a span, which has not begun
+abbrev pub lent_matches_in : List ℕ → List ℕ → Span → PreparedMatchesValue
+lent_matches_in numbers haystack span =
+    record { numbers = numbers; haystack = haystack; span = span; at = span.start; look_ups = no_look_ups }
+
+-- the answer of `next_match`: by a prepared array that of `GivesMatch`. By another a match still lies in the rest of
+-- the span, and names one of the patterns. After `None` or `Damaged` it has ended
+pub record GivesLentMatch (old : PreparedMatchesValue) (answer : Result (Option MatchValue) Damaged)
+    (new : PreparedMatchesValue) : Type 0 where
+  pub prepared : ForPrepared old.numbers (λ search. IsOkAnd answer (λ found.
+      GivesMatch (matches_for search old) found (matches_for search new)))
+  pub inside : IfOk answer (λ found. IfSome found (LiesIn (between old.at old.span.end)))
+  pub pattern : IfOk answer (λ found. IfSome found (λ m. m.pattern < slice_index old.numbers 3))
+  pub goes_on : MatchResult answer (λ found. new.at ≡ offset_at_end old.span found) (λ _. new.at ≡ old.span.end)
+  pub ended : old.at ≡ old.span.end → IsOkAnd answer (λ found. found ≡ None)
+  pub same : new ≡ record old { at = new.at; look_ups = new.look_ups }

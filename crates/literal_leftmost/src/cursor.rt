@@ -6,7 +6,7 @@ ghost use Rattle.literal_base.specs.Occurs.{IsValidSpan, between};
 ghost use Rattle.literal_leftmost.specs.LookUps.{LooksOn, ScansNext, ScansRest, no_look_ups};
 ghost use Rattle.literal_leftmost.specs.Inside.Backward.{ForBackward, IsMatchBy, IsSafe, offset_by};
 ghost use Rattle.literal_leftmost.specs.Inside.Cursor.{AreKnown, FitsIn, HasNotBegun, IsCursor, IsIn, KnowsAhead};
-ghost use Rattle.literal_leftmost.specs.Inside.Cursor.{look_ups_of, looked_in};
+ghost use Rattle.literal_leftmost.specs.Inside.Cursor.{StepsOn, look_ups_of, looked_in};
 ghost use Rattle.literal_leftmost.specs.Prepared.{BackTables};
 ghost use Rattle.literal_leftmost.specs.declared.backward.Continuation.{Continuation};
 
@@ -101,23 +101,10 @@ impl<'t> Backward<'t> {
         requires safe { IsSafe self.now }
         requires valid { IsValidSpan haystack.now span }
         requires cursor { IsCursor self.now.table.longest span cursor.old }
-        ensures leftmost { ForBackward self.now (λ tables. KnowsAhead tables haystack.now span cursor.old
-            → IsOkAnd result (IsLeftmost tables.search.query tables.search.ignore_case haystack.now
-            (between cursor.old.at span.end))) }
-        ensures knows { ForBackward self.now (λ tables. KnowsAhead tables haystack.now span cursor.old
-            → IfOk result (λ _. KnowsAhead tables haystack.now span cursor.new)) }
-        ensures lies { IfOk result (λ answer. IfSome answer (IsMatchBy self.now span cursor.old.at)) }
-        ensures at { IfOk result (λ answer. cursor.new.at ≡ offset_by on span answer) }
-        ensures cursor { IfOk result (λ _. IsCursor self.now.table.longest span cursor.new) }
-        ensures looks { IfOk result (λ _. LooksOn self.now.table.longest span cursor.new.at
-            (look_ups_of self.now.table.longest span cursor.old)
-            (look_ups_of self.now.table.longest span cursor.new)) }
-        ensures scans { IfOk result (λ _. ScansNext (look_ups_of self.now.table.longest span cursor.old)
-            (look_ups_of self.now.table.longest span cursor.new) tally.old tally.new) }
+        ensures steps { StepsOn self.now haystack.now span on cursor.old result cursor.new tally.old tally.new }
         ensures rest { ScansRest self.now.table.longest span (look_ups_of self.now.table.longest span cursor.old)
             tally.old tally.new }
         ensures fits { OnErr result (FitsIn self.now.table.longest span cursor.new.room) }
-        ensures ended { cursor.old.at ≡ span.end → IsOkAnd result (λ answer. answer ≡ None) }
     {
         let Cursor { at, marks, room } = cursor;
         let answer = self.next_by(haystack, span, *at, marks, room, tally)?;

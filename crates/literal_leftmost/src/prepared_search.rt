@@ -1,16 +1,15 @@
 //! The search for leftmost matches by an array that its caller lends, without memory of its own. The array is not
 //! trusted: if a number leads out of it, the search answers [`Damaged`].
 ghost use Rattle.std.specs.Prelude.{◌≡◌, ℕ, ◌+◌, ◌-◌, ◌*◌, ◌<◌, ◌≤◌, ◌↔◌, slice_index};
-ghost use Rattle.std.specs.Prelude.{IfOk, IfSome, IsTrue, MatchOption, MatchResult, None};
+ghost use Rattle.std.specs.Prelude.{IfOk, IfSome, IsTrue, MatchOption, MatchResult};
 ghost use Rattle.std.specs.Result.{IsOkAnd};
-ghost use Rattle.literal_base.specs.Occurs.{IsValidSpan, Occurs, between};
+ghost use Rattle.literal_base.specs.Occurs.{IsValidSpan, Occurs};
 ghost use Rattle.literal_leftmost.specs.Counted.{IsGreedyCount};
-ghost use Rattle.literal_leftmost.specs.LookUps.{LooksOn, ScansNext, ScansRest, no_look_ups};
+ghost use Rattle.literal_leftmost.specs.LookUps.{LooksOn, ScansNext, ScansRest};
 ghost use Rattle.literal_leftmost.specs.SearchValue.{LooksFor};
 ghost use Rattle.literal_base.specs.Leftmost.{IsLeftmost};
-ghost use Rattle.literal_leftmost.specs.MatchesValue.{GivesMatch, offset_at_end};
-ghost use Rattle.literal_leftmost.specs.Prepared.{LiesIn, longest_in};
-ghost use Rattle.literal_leftmost.specs.Prepared.{ForPrepared, HasAllParts, IsWhole, kind_in, matches_for};
+ghost use Rattle.literal_leftmost.specs.Prepared.{ForPrepared, GivesLentMatch, HasAllParts, IsWhole, LiesIn, kind_in};
+ghost use Rattle.literal_leftmost.specs.Prepared.{lent_matches_in, longest_in};
 ghost use Rattle.literal_leftmost.specs.Inside.Prepared.{IsBackIn};
 
 use crate::backward::{Backward, Continuation};
@@ -98,13 +97,7 @@ impl<'p> Prepared<'p> {
         span: Span,
     ) -> PreparedMatches<'s, 'p, 'h>
         requires { IsValidSpan haystack.now span }
-        ensures { result ≡ record {
-          numbers = self.now;
-          haystack = haystack.now;
-          span = span;
-          at = span.start;
-          look_ups = no_look_ups;
-        } }
+        ensures { result ≡ lent_matches_in self.now haystack.now span }
     {
         prove!(span.end <= haystack.len());
         let mut matches = PreparedMatches {
@@ -269,19 +262,12 @@ pub struct PreparedMatches<'s, 'p, 'h> {
 
 impl<'s, 'p, 'h> Model for PreparedMatches<'s, 'p, 'h> {
     ghost use Rattle.literal_base.specs.Occurs.{IsValidSpan};
-    ghost use Rattle.literal_leftmost.specs.Prepared.{PreparedMatchesValue, longest_in};
-    ghost use Rattle.literal_leftmost.specs.Inside.Cursor.{look_ups_of};
-    ghost use Rattle.literal_leftmost.specs.Inside.Prepared.{GoesOnBy};
+    ghost use Rattle.literal_leftmost.specs.Prepared.{PreparedMatchesValue};
+    ghost use Rattle.literal_leftmost.specs.Inside.Prepared.{GoesOnBy, lent_at};
 
     ghost Value = { PreparedMatchesValue };
 
-    ghost view = { λ m. record {
-      numbers = m.prepared.now;
-      haystack = m.haystack.now;
-      span = m.span;
-      at = m.cursor.at;
-      look_ups = look_ups_of (longest_in m.prepared.now) m.span m.cursor;
-    } };
+    ghost view = { λ m. lent_at m.prepared.now m.haystack.now m.span m.cursor };
 
     ghost invariant = { λ m. IsValidSpan m.haystack.now m.span
         × GoesOnBy m.prepared.now m.haystack.now m.span m.cursor };
@@ -291,15 +277,7 @@ impl<'s, 'p, 'h> PreparedMatches<'s, 'p, 'h> {
     /// Returns the next match, as `Matches` does, or `None` after the last. With a changed array, each match still
     /// begins after the previous one. After `None` or [`Damaged`] it always answers `None`.
     pub fn next_match(&mut self) -> Result<Option<Match>, Damaged>
-        ensures prepared { ForPrepared self.old.numbers (λ search. IsOkAnd result (λ answer.
-            GivesMatch (matches_for search self.old) answer (matches_for search self.new))) }
-        ensures inside { IfOk result (λ answer. IfSome answer (LiesIn (between self.old.at self.old.span.end))) }
-        ensures pattern { IfOk result (λ answer. IfSome answer
-            (λ found. found.pattern < slice_index self.old.numbers 3)) }
-        ensures goes_on { MatchResult result (λ answer. self.new.at ≡ offset_at_end self.old.span answer)
-            (λ _. self.new.at ≡ self.old.span.end) }
-        ensures ended { self.old.at ≡ self.old.span.end → IsOkAnd result (λ answer. answer ≡ None) }
-        ensures same { self.new ≡ record self.old { at = self.new.at; look_ups = self.new.look_ups } }
+        ensures { GivesLentMatch self.old result self.new }
     {
         self.next_counted(&mut Tally::new())
     }
@@ -307,15 +285,7 @@ impl<'s, 'p, 'h> PreparedMatches<'s, 'p, 'h> {
     /// Like `next_match`, and counts in the tally as `Matches::next_counted` does, with the longest pattern length that
     /// the array gives, whatever its other numbers are.
     pub fn next_counted(&mut self, tally: &mut Tally) -> Result<Option<Match>, Damaged>
-        ensures prepared { ForPrepared self.old.numbers (λ search. IsOkAnd result (λ answer.
-            GivesMatch (matches_for search self.old) answer (matches_for search self.new))) }
-        ensures inside { IfOk result (λ answer. IfSome answer (LiesIn (between self.old.at self.old.span.end))) }
-        ensures pattern { IfOk result (λ answer. IfSome answer
-            (λ found. found.pattern < slice_index self.old.numbers 3)) }
-        ensures goes_on { MatchResult result (λ answer. self.new.at ≡ offset_at_end self.old.span answer)
-            (λ _. self.new.at ≡ self.old.span.end) }
-        ensures ended { self.old.at ≡ self.old.span.end → IsOkAnd result (λ answer. answer ≡ None) }
-        ensures same { self.new ≡ record self.old { at = self.new.at; look_ups = self.new.look_ups } }
+        ensures gives { GivesLentMatch self.old result self.new }
         ensures looks { IfOk result (λ _. LooksOn (longest_in self.old.numbers) self.old.span self.new.at
             self.old.look_ups self.new.look_ups) }
         ensures scans { IfOk result (λ _. ScansNext self.old.look_ups self.new.look_ups tally.old tally.new) }

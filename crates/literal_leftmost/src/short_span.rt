@@ -1,14 +1,12 @@
 //! Iterations over short spans. They clear only as much memory as the marks of such a span take. A cursor for any span
 //! has room for those of a block, and all of it is cleared.
-ghost use Rattle.std.specs.Prelude.{◌≡◌, ◌-◌, ◌<◌, ◌≤◌, ℕ, List, slice_index, IfOk, IfSome, MatchResult, None};
-ghost use Rattle.std.specs.Result.{IsOkAnd};
-ghost use Rattle.literal_base.specs.Leftmost.{IsLeftmost};
-ghost use Rattle.literal_base.specs.Occurs.{IsValidSpan, between};
+ghost use Rattle.std.specs.Prelude.{◌≡◌, ◌-◌, ◌≤◌, ℕ, List, IfOk};
+ghost use Rattle.literal_base.specs.Occurs.{IsValidSpan};
 ghost use Rattle.literal_leftmost.specs.LookUps.{LooksOn, ScansNext, ScansRest, no_look_ups};
-ghost use Rattle.literal_leftmost.specs.MatchesValue.{GivesMatch, offset_at_end};
-ghost use Rattle.literal_leftmost.specs.Prepared.{BackTables, ForPrepared, LiesIn, longest_in, matches_for};
-ghost use Rattle.literal_leftmost.specs.Inside.Backward.{ForBackward, IsMatchBy, IsSafe};
-ghost use Rattle.literal_leftmost.specs.Inside.Cursor.{IsCursor, KnowsAhead, cursor_by, look_ups_of};
+ghost use Rattle.literal_leftmost.specs.Prepared.{BackTables, GivesLentMatch, lent_matches_in, longest_in};
+ghost use Rattle.literal_leftmost.specs.Inside.Backward.{IsSafe};
+ghost use Rattle.literal_leftmost.specs.Inside.Cursor.{IsCursor, KnowsAhead, StepsOn, cursor_by, look_ups_of};
+ghost use Rattle.literal_leftmost.specs.declared.backward.Continuation.TheVariants.{AtEnd};
 
 use crate::backward::{Backward, Continuation, Marks, no_marks, offset_after};
 use crate::prepared_search::Prepared;
@@ -73,22 +71,10 @@ impl<'t> Backward<'t> {
         requires valid { IsValidSpan haystack.now span }
         requires short { span.end - span.start ≤ SHORT_SPAN }
         requires cursor { IsCursor self.now.table.longest span (cursor_by cursor.old) }
-        ensures leftmost { ForBackward self.now (λ tables. KnowsAhead tables haystack.now span (cursor_by cursor.old)
-            → IsOkAnd result (IsLeftmost tables.search.query tables.search.ignore_case haystack.now
-            (between cursor.old.at span.end))) }
-        ensures knows { ForBackward self.now (λ tables. KnowsAhead tables haystack.now span (cursor_by cursor.old)
-            → IfOk result (λ _. KnowsAhead tables haystack.now span (cursor_by cursor.new))) }
-        ensures lies { IfOk result (λ answer. IfSome answer (IsMatchBy self.now span cursor.old.at)) }
-        ensures at { IfOk result (λ answer. cursor.new.at ≡ offset_at_end span answer) }
-        ensures cursor { IfOk result (λ _. IsCursor self.now.table.longest span (cursor_by cursor.new)) }
-        ensures looks { IfOk result (λ _. LooksOn self.now.table.longest span cursor.new.at
-            (look_ups_of self.now.table.longest span (cursor_by cursor.old))
-            (look_ups_of self.now.table.longest span (cursor_by cursor.new))) }
-        ensures scans { IfOk result (λ _. ScansNext (look_ups_of self.now.table.longest span (cursor_by cursor.old))
-            (look_ups_of self.now.table.longest span (cursor_by cursor.new)) tally.old tally.new) }
+        ensures steps { StepsOn self.now haystack.now span AtEnd (cursor_by cursor.old) result (cursor_by cursor.new)
+            tally.old tally.new }
         ensures rest { ScansRest self.now.table.longest span
             (look_ups_of self.now.table.longest span (cursor_by cursor.old)) tally.old tally.new }
-        ensures ended { cursor.old.at ≡ span.end → IsOkAnd result (λ answer. answer ≡ None) }
     {
         let ShortCursor { at, marks, numbers } = cursor;
         let answer = self.next_match(haystack, span, *at, numbers, marks, tally)?;
@@ -108,13 +94,7 @@ impl<'p> Prepared<'p> {
     ) -> PreparedShortMatches<'s, 'p, 'h>
         requires valid { IsValidSpan haystack.now span }
         requires short { span.end - span.start ≤ SHORT_SPAN }
-        ensures { result ≡ record {
-          numbers = self.now;
-          haystack = haystack.now;
-          span = span;
-          at = span.start;
-          look_ups = no_look_ups;
-        } }
+        ensures { result ≡ lent_matches_in self.now haystack.now span }
     {
         prove!(span.end <= haystack.len());
         PreparedShortMatches {
@@ -139,20 +119,14 @@ pub struct PreparedShortMatches<'s, 'p, 'h> {
 impl<'s, 'p, 'h> Model for PreparedShortMatches<'s, 'p, 'h> {
     ghost use Rattle.std.specs.Prelude.{◌-◌, ◌≤◌};
     ghost use Rattle.literal_base.specs.Occurs.{IsValidSpan};
-    ghost use Rattle.literal_leftmost.specs.Prepared.{PreparedMatchesValue, longest_in};
-    ghost use Rattle.literal_leftmost.specs.Inside.Cursor.{cursor_by, look_ups_of};
-    ghost use Rattle.literal_leftmost.specs.Inside.Prepared.{GoesOnBy};
+    ghost use Rattle.literal_leftmost.specs.Prepared.{PreparedMatchesValue};
+    ghost use Rattle.literal_leftmost.specs.Inside.Cursor.{cursor_by};
+    ghost use Rattle.literal_leftmost.specs.Inside.Prepared.{GoesOnBy, lent_at};
     ghost use Rattle.literal_leftmost.specs.declared.short_span.TheConstants.{SHORT_SPAN};
 
     ghost Value = { PreparedMatchesValue };
 
-    ghost view = { λ m. record {
-      numbers = m.prepared.now;
-      haystack = m.haystack.now;
-      span = m.span;
-      at = m.cursor.at;
-      look_ups = look_ups_of (longest_in m.prepared.now) m.span (cursor_by m.cursor);
-    } };
+    ghost view = { λ m. lent_at m.prepared.now m.haystack.now m.span (cursor_by m.cursor) };
 
     ghost invariant = { λ m. IsValidSpan m.haystack.now m.span
         × (m.span.end - m.span.start ≤ SHORT_SPAN)
@@ -164,15 +138,7 @@ impl<'s, 'p, 'h> PreparedShortMatches<'s, 'p, 'h> {
     /// does.
     #[inline(always)]
     pub fn next_match(&mut self) -> Result<Option<Match>, Damaged>
-        ensures prepared { ForPrepared self.old.numbers (λ search. IsOkAnd result (λ answer.
-            GivesMatch (matches_for search self.old) answer (matches_for search self.new))) }
-        ensures inside { IfOk result (λ answer. IfSome answer (LiesIn (between self.old.at self.old.span.end))) }
-        ensures pattern { IfOk result (λ answer. IfSome answer
-            (λ found. found.pattern < slice_index self.old.numbers 3)) }
-        ensures goes_on { MatchResult result (λ answer. self.new.at ≡ offset_at_end self.old.span answer)
-            (λ _. self.new.at ≡ self.old.span.end) }
-        ensures ended { self.old.at ≡ self.old.span.end → IsOkAnd result (λ answer. answer ≡ None) }
-        ensures same { self.new ≡ record self.old { at = self.new.at; look_ups = self.new.look_ups } }
+        ensures { GivesLentMatch self.old result self.new }
     {
         self.next_counted(&mut Tally::new())
     }
@@ -181,15 +147,7 @@ impl<'s, 'p, 'h> PreparedShortMatches<'s, 'p, 'h> {
     /// [`PreparedMatches::next_counted`](crate::prepared_search::PreparedMatches::next_counted) does.
     #[inline(always)]
     pub fn next_counted(&mut self, tally: &mut Tally) -> Result<Option<Match>, Damaged>
-        ensures prepared { ForPrepared self.old.numbers (λ search. IsOkAnd result (λ answer.
-            GivesMatch (matches_for search self.old) answer (matches_for search self.new))) }
-        ensures inside { IfOk result (λ answer. IfSome answer (LiesIn (between self.old.at self.old.span.end))) }
-        ensures pattern { IfOk result (λ answer. IfSome answer
-            (λ found. found.pattern < slice_index self.old.numbers 3)) }
-        ensures goes_on { MatchResult result (λ answer. self.new.at ≡ offset_at_end self.old.span answer)
-            (λ _. self.new.at ≡ self.old.span.end) }
-        ensures ended { self.old.at ≡ self.old.span.end → IsOkAnd result (λ answer. answer ≡ None) }
-        ensures same { self.new ≡ record self.old { at = self.new.at; look_ups = self.new.look_ups } }
+        ensures gives { GivesLentMatch self.old result self.new }
         ensures looks { IfOk result (λ _. LooksOn (longest_in self.old.numbers) self.old.span self.new.at
             self.old.look_ups self.new.look_ups) }
         ensures scans { IfOk result (λ _. ScansNext self.old.look_ups self.new.look_ups tally.old tally.new) }

@@ -14,6 +14,11 @@ pub record OverlappingMatchesValue : Type 0 where
   pub end : ℕ
   pub pattern : ℕ
 
+-- an iteration over every occurrence in a span, which has not begun
+abbrev pub occurrences_in : OverlappingValue → List ℕ → Span → OverlappingMatchesValue
+occurrences_in search haystack span =
+    record { search = search; haystack = haystack; span = span; end = span.start; pattern = 0 }
+
 -- an occurrence is still to come: it ends later, or at the same end and has that pattern number or a greater one
 pub record IsToCome (m : OverlappingMatchesValue) (found : MatchValue) : Type 0 where
   pub occurrence : IsOccurrence m.search.patterns m.search.ignore_case m.haystack m.span found

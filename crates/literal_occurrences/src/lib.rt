@@ -7,6 +7,7 @@ pub mod automaton;
 pub mod count;
 pub mod ends;
 pub mod position;
+pub mod prepared_occurrences;
 pub mod prepared_overlapping;
 pub mod prepared_states;
 pub mod scan;

@@ -35,9 +35,8 @@ pub use literal_leftmost::prepared_search::{Prepared, PreparedMatches};
 pub use literal_leftmost::short_span::{PreparedShortMatches, SHORT_SPAN};
 pub use literal_leftmost::so_far::SoFar;
 pub use literal_occurrences::automaton::{Automaton, State};
-pub use literal_occurrences::prepared_overlapping::{
-    PreparedOverlapping, PreparedOverlappingMatches,
-};
+pub use literal_occurrences::prepared_occurrences::PreparedOverlappingMatches;
+pub use literal_occurrences::prepared_overlapping::PreparedOverlapping;
 pub use literal_occurrences::prepared_states::Walked;
 pub use literal_pieces::overlapping_stream::OverlappingStreamMatches;
 pub use literal_pieces::replace_stream::ReplaceStreamError;

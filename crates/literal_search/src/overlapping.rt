@@ -10,7 +10,7 @@ ghost use Rattle.literal_search.specs.SearchValue.{longest_of};
 ghost use Rattle.literal_search.specs.Earliest.{IsEarliestEnd, ScansToEndWithin};
 ghost use Rattle.literal_search.specs.Memory.{TakesListedBytes};
 ghost use Rattle.literal_search.specs.Overlapping.{BuildsOverlapping, IsOverlappingCount};
-ghost use Rattle.literal_search.specs.OverlappingMatchesValue.{GivesOverlapping, most_overlapping};
+ghost use Rattle.literal_search.specs.OverlappingMatchesValue.{GivesOverlapping, most_overlapping, occurrences_in};
 ghost use Rattle.literal_search.specs.Prepared.{AreShort};
 ghost use Rattle.literal_search.specs.PreparedOverlapping.{RefusesOverlapping, TakesListedPlaces, WritesOverlapping};
 ghost use Rattle.literal_search.specs.PreparedOverlapping.{overlapping_value};
@@ -101,13 +101,7 @@ impl Overlapping {
 
     /// Returns an iterator over every occurrence in the whole haystack ([`Overlapping::find_overlapping_in`]).
     pub fn find_overlapping_iter<'s, 'h>(&'s self, haystack: &'h [u8]) -> OverlappingMatches<'s, 'h>
-        ensures { result ≡ record {
-          search = self.now;
-          haystack = haystack.now;
-          span = whole_of haystack.now;
-          end = 0;
-          pattern = 0;
-        } }
+        ensures { result ≡ occurrences_in self.now haystack.now (whole_of haystack.now) }
     {
         let end = haystack.len();
         self.find_overlapping_in(haystack, Span { start: 0, end })
@@ -123,13 +117,7 @@ impl Overlapping {
         span: Span,
     ) -> OverlappingMatches<'s, 'h>
         requires { IsValidSpan haystack.now span }
-        ensures { result ≡ record {
-          search = self.now;
-          haystack = haystack.now;
-          span = span;
-          end = span.start;
-          pattern = 0;
-        } }
+        ensures { result ≡ occurrences_in self.now haystack.now span }
     {
         let lent = self.parts.lent();
         let position = lent.before_all(haystack, span);

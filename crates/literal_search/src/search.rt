@@ -13,7 +13,8 @@ ghost use Rattle.literal_search.specs.LookUps.{ScansNext, no_look_ups};
 ghost use Rattle.literal_search.specs.SearchValue.{BuildsSearch, CanBeKept, MayRefuseList, NeedFewReversed};
 ghost use Rattle.literal_search.specs.SearchValue.{NeedTooManyReversed, RefusesSearch, ScansListAtMost, ScansWithin};
 ghost use Rattle.literal_search.specs.SearchValue.{longest_of, reversed, search_by, shortest_of};
-ghost use Rattle.literal_search.specs.MatchesValue.{GivesMatch, GivesStart, GivesThen, most_to_come};
+ghost use Rattle.literal_search.specs.MatchesValue.{GivesMatch, GivesStart, GivesThen, matches_in, matches_of};
+ghost use Rattle.literal_search.specs.MatchesValue.{most_to_come};
 ghost use Rattle.literal_search.specs.Memory.{TakesBytes};
 ghost use Rattle.literal_search.specs.Prepared.{AreShort, RefusesToPrepare, TakesPlaces, WritesPrepared, longest_in};
 ghost use Rattle.literal_leftmost.specs.Inside.Backward.{AreBackFor, IsSafe, back_tables_by, offset_by};
@@ -230,13 +231,7 @@ impl Search {
     /// time the leftmost match after the end of the previous one. The iterator borrows the haystack. It ends with its
     /// first `None`.
     pub fn find_iter<'s, 'h>(&'s self, haystack: &'h [u8]) -> Matches<'s, 'h>
-        ensures { result ≡ record {
-          search = self.now;
-          haystack = haystack.now;
-          span = whole_of haystack.now;
-          at = 0;
-          look_ups = no_look_ups;
-        } }
+        ensures { result ≡ matches_of self.now haystack.now }
     {
         let end = haystack.len();
         self.find_iter_in(haystack, Span { start: 0, end })
@@ -247,13 +242,7 @@ impl Search {
     /// allocates nothing: the iterator itself takes a little more than 4 KiB.
     pub fn find_iter_in<'s, 'h>(&'s self, haystack: &'h [u8], span: Span) -> Matches<'s, 'h>
         requires { IsValidSpan haystack.now span }
-        ensures { result ≡ record {
-          search = self.now;
-          haystack = haystack.now;
-          span = span;
-          at = span.start;
-          look_ups = no_look_ups;
-        } }
+        ensures { result ≡ matches_in self.now haystack.now span }
     {
         prove!(span.end <= haystack.len());
         let backward = self.parts.backward();
@@ -271,13 +260,7 @@ impl Search {
     /// Returns an iterator over the match at each offset where a pattern begins, from left to right: of the patterns
     /// that occur there, the one that the match kind prefers. These matches may overlap.
     pub fn starts<'s, 'h>(&'s self, haystack: &'h [u8]) -> Starts<'s, 'h>
-        ensures { result ≡ record {
-          search = self.now;
-          haystack = haystack.now;
-          span = whole_of haystack.now;
-          at = 0;
-          look_ups = no_look_ups;
-        } }
+        ensures { result ≡ matches_of self.now haystack.now }
     {
         let end = haystack.len();
         self.starts_in(haystack, Span { start: 0, end })
@@ -286,13 +269,7 @@ impl Search {
     /// The same in a span of the haystack. Each match lies whole in the span, which has to be valid. Allocates nothing.
     pub fn starts_in<'s, 'h>(&'s self, haystack: &'h [u8], span: Span) -> Starts<'s, 'h>
         requires { IsValidSpan haystack.now span }
-        ensures { result ≡ record {
-          search = self.now;
-          haystack = haystack.now;
-          span = span;
-          at = span.start;
-          look_ups = no_look_ups;
-        } }
+        ensures { result ≡ matches_in self.now haystack.now span }
     {
         Starts {
             matches: self.find_iter_in(haystack, span),
@@ -349,13 +326,7 @@ impl Search {
     fn find_iter_in_short<'s, 'h>(&'s self, haystack: &'h [u8], span: Span) -> ShortMatches<'s, 'h>
         requires valid { IsValidSpan haystack.now span }
         requires short { span.end - span.start ≤ SHORT_SPAN }
-        ensures { result ≡ record {
-          search = self.now;
-          haystack = haystack.now;
-          span = span;
-          at = span.start;
-          look_ups = no_look_ups;
-        } }
+        ensures { result ≡ matches_in self.now haystack.now span }
     {
         prove!(span.end <= haystack.len());
         ShortMatches {
@@ -586,18 +557,13 @@ pub struct Matches<'s, 'h> {
 
 impl<'s, 'h> Model for Matches<'s, 'h> {
     ghost use Rattle.literal_search.specs.MatchesValue.{MatchesValue};
-    ghost use Rattle.literal_leftmost.specs.Inside.Cursor.{look_ups_of};
+    ghost use Rattle.literal_leftmost.specs.Inside.Cursor.{matches_at};
     ghost use Rattle.literal_search.specs.Inside.Search.{GoesOn, search_value};
 
     ghost Value = { MatchesValue };
 
-    ghost view = { λ m. record {
-      search = search_value m.parts.now;
-      haystack = m.haystack.now;
-      span = m.span;
-      at = m.cursor.at;
-      look_ups = look_ups_of m.backward.table.longest m.span m.cursor;
-    } };
+    ghost view = { λ m.
+        matches_at (search_value m.parts.now) m.haystack.now m.span m.backward.table.longest m.cursor };
 
     ghost invariant = { λ m. GoesOn m.parts.now m.backward m.haystack.now m.span m.cursor };
 }
@@ -652,19 +618,14 @@ struct ShortMatches<'s, 'h> {
 impl<'s, 'h> Model for ShortMatches<'s, 'h> {
     ghost use Rattle.literal_search.specs.MatchesValue.{MatchesValue};
     ghost use Rattle.std.specs.Prelude.{◌-◌, ◌≤◌};
-    ghost use Rattle.literal_leftmost.specs.Inside.Cursor.{cursor_by, look_ups_of};
+    ghost use Rattle.literal_leftmost.specs.Inside.Cursor.{cursor_by, matches_at};
     ghost use Rattle.literal_search.specs.Inside.Search.{GoesOn, search_value};
     ghost use Rattle.literal_leftmost.specs.declared.short_span.TheConstants.{SHORT_SPAN};
 
     ghost Value = { MatchesValue };
 
-    ghost view = { λ m. record {
-      search = search_value m.parts.now;
-      haystack = m.haystack.now;
-      span = m.span;
-      at = m.cursor.at;
-      look_ups = look_ups_of m.backward.table.longest m.span (cursor_by m.cursor);
-    } };
+    ghost view = { λ m.
+        matches_at (search_value m.parts.now) m.haystack.now m.span m.backward.table.longest (cursor_by m.cursor) };
 
     ghost invariant = { λ m. (m.span.end - m.span.start ≤ SHORT_SPAN)
         × GoesOn m.parts.now m.backward m.haystack.now m.span (cursor_by m.cursor) };

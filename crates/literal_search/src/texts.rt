@@ -2,8 +2,7 @@
 ghost use Rattle.std.specs.Prelude.{◌≡◌, ◌-◌, ◌<◌, IfOk, IfSome, OnErr, length};
 ghost use Rattle.literal_base.specs.Occurs.{IsValidSpan, whole_of};
 ghost use Rattle.literal_search.specs.WholeWords.{AreWholeWordsBy, IsFirstAloneBy, NothingAloneBy};
-ghost use Rattle.literal_search.specs.LookUps.{no_look_ups};
-ghost use Rattle.literal_search.specs.WholeWords.{ScansFirstWord};
+ghost use Rattle.literal_search.specs.WholeWords.{ScansFirstWord, word_matches_in};
 ghost use Rattle.literal_search.specs.WordText.{sides_of};
 
 use crate::whole_words::WholeWords;
@@ -56,14 +55,7 @@ impl WholeWords {
     /// [`WholeWords::find_iter`] does. The iterator borrows the text.
     pub fn find_text_iter<'s, 'h>(&'s self, text: &'h WordText<'h>) -> WordMatchesBySides<'s, 'h>
         ensures { result ≡ record {
-          matches = record {
-            words = self.now;
-            haystack = text.now;
-            span = whole_of text.now;
-            at = 0;
-            from = 0;
-            look_ups = no_look_ups;
-          };
+          matches = word_matches_in self.now text.now (whole_of text.now);
           sides = sides_of text.now;
         } }
     {
@@ -78,17 +70,7 @@ impl WholeWords {
         span: Span,
     ) -> WordMatchesBySides<'s, 'h>
         requires { IsValidSpan text.now span }
-        ensures { result ≡ record {
-          matches = record {
-            words = self.now;
-            haystack = text.now;
-            span = span;
-            at = span.start;
-            from = span.start;
-            look_ups = no_look_ups;
-          };
-          sides = sides_of text.now;
-        } }
+        ensures { result ≡ record { matches = word_matches_in self.now text.now span; sides = sides_of text.now } }
     {
         self.matches_by_sides(text.as_bytes(), text.sides(), span)
     }
@@ -138,17 +120,7 @@ impl WholeWords {
     ) -> WordMatchesBySides<'s, 'h>
         requires valid { IsValidSpan haystack.now span }
         requires sides { length sides.now ≡ length haystack.now }
-        ensures { result ≡ record {
-          matches = record {
-            words = self.now;
-            haystack = haystack.now;
-            span = span;
-            at = span.start;
-            from = span.start;
-            look_ups = no_look_ups;
-          };
-          sides = sides.now;
-        } }
+        ensures { result ≡ record { matches = word_matches_in self.now haystack.now span; sides = sides.now } }
     {
         let (kind, word_bytes) = (self.parts.kind, self.parts.word_bytes);
         let words = Words::new(kind, self.parts.search.backward(), word_bytes);

@@ -7,9 +7,8 @@ ghost use Rattle.literal_base.specs.Occurs.{IsValidSpan, pattern_at, whole_of};
 ghost use Rattle.literal_search.specs.SearchValue.{BuildsSearch, CanBeKept, NeedFewReversed, NeedTooManyReversed};
 ghost use Rattle.literal_search.specs.SearchValue.{RefusesSearch};
 ghost use Rattle.literal_search.specs.WholeWords.{AreWholeWords, GivesWholeWord, IsFirstAlone};
-ghost use Rattle.literal_search.specs.LookUps.{no_look_ups};
 ghost use Rattle.literal_search.specs.WholeWords.{NothingAlone, OccursAlone, ScansFirstWord, ScansWords};
-ghost use Rattle.literal_search.specs.WholeWords.{is_ascii_word_byte, most_words_to_come};
+ghost use Rattle.literal_search.specs.WholeWords.{is_ascii_word_byte, most_words_to_come, word_matches_in};
 ghost use Rattle.literal_words.specs.Inside.WholeWords.{AreTablesFor};
 
 use crate::BuildError;
@@ -141,14 +140,7 @@ impl WholeWords {
     /// time the leftmost one after the end of the previous one. The iterator borrows the haystack. It ends with its
     /// first `None`.
     pub fn find_iter<'s, 'h>(&'s self, haystack: &'h [u8]) -> WholeWordMatches<'s, 'h>
-        ensures { result ≡ record {
-          words = self.now;
-          haystack = haystack.now;
-          span = whole_of haystack.now;
-          at = 0;
-          from = 0;
-          look_ups = no_look_ups;
-        } }
+        ensures { result ≡ word_matches_in self.now haystack.now (whole_of haystack.now) }
     {
         let end = haystack.len();
         self.find_iter_in(haystack, Span { start: 0, end })
@@ -161,14 +153,7 @@ impl WholeWords {
         span: Span,
     ) -> WholeWordMatches<'s, 'h>
         requires { IsValidSpan haystack.now span }
-        ensures { result ≡ record {
-          words = self.now;
-          haystack = haystack.now;
-          span = span;
-          at = span.start;
-          from = span.start;
-          look_ups = no_look_ups;
-        } }
+        ensures { result ≡ word_matches_in self.now haystack.now span }
     {
         WholeWordMatches {
             matches: self.matches_by_sides(haystack, haystack, span),

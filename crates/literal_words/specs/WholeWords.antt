@@ -10,7 +10,7 @@ use Rattle.literal_base.specs.MatchValue.{MatchValue}
 use Rattle.literal_base.specs.Occurs.{Occurs, between, pattern_at, rest_from}
 use Rattle.literal_base.specs.Query.{Query}
 use Rattle.literal_base.specs.declared.search.Span.{Span}
-use Rattle.literal_leftmost.specs.LookUps.{LookUps, LooksOn}
+use Rattle.literal_leftmost.specs.LookUps.{LookUps, LooksOn, no_look_ups}
 use Rattle.literal_leftmost.specs.MatchesValue.{offset_after_start, offset_at_end}
 use Rattle.literal_leftmost.specs.SearchValue.{SearchValue, longest_of, most_scanned}
 
@@ -111,6 +111,17 @@ pub record WholeWordMatchesValue : Type 0 where
   pub at : ℕ
   pub from : ℕ
   pub look_ups : LookUps
+
+-- an iteration over the whole words in a span, which has not begun
+abbrev pub word_matches_in : WholeWordsValue → List ℕ → Span → WholeWordMatchesValue
+word_matches_in words haystack span = record {
+  words = words;
+  haystack = haystack;
+  span = span;
+  at = span.start;
+  from = span.start;
+  look_ups = no_look_ups;
+}
 
 -- `GivesWholeWord` by the sides of the haystack
 pub record GivesWholeWordBy (sides : List ℕ) (old : WholeWordMatchesValue) (answer : Option MatchValue)

@@ -1,15 +1,13 @@
 //! The search for whole words by an array that its caller lends, without memory of its own. The array is not trusted:
 //! if a number leads out of it, the search answers [`Damaged`].
-ghost use Rattle.std.specs.Prelude.{◌≡◌, ℕ, ◌<◌, ◌≤◌, IfOk, IfSome, MatchResult, None, length, slice_index};
-ghost use Rattle.std.specs.Result.{IsOkAnd};
-ghost use Rattle.literal_base.specs.Occurs.{IsValidSpan, Occurs, between};
-ghost use Rattle.literal_leftmost.specs.MatchesValue.{offset_after_start, offset_at_end};
+ghost use Rattle.std.specs.Prelude.{◌≡◌, ℕ, ◌<◌, ◌≤◌, IfOk, MatchResult, length};
+ghost use Rattle.literal_base.specs.Occurs.{IsValidSpan, Occurs};
 ghost use Rattle.literal_base.specs.declared.packed.MatchKind.TheVariants.{LeftmostFirst, LeftmostLongest};
-ghost use Rattle.literal_leftmost.specs.Prepared.{LiesIn, kind_in, longest_in};
-ghost use Rattle.literal_words.specs.PreparedWords.{ForWholeWords, word_matches_by};
-ghost use Rattle.literal_words.specs.WholeWords.{GivesWholeWord, GivesWholeWordBy, IsFirstAlone, IsFirstAloneBy};
-ghost use Rattle.literal_leftmost.specs.LookUps.{LooksOn, no_look_ups};
-ghost use Rattle.literal_words.specs.WholeWords.{ScansFirstWordBy, ScansWordsBy, ScansWordsRest};
+ghost use Rattle.literal_leftmost.specs.LookUps.{no_look_ups};
+ghost use Rattle.literal_leftmost.specs.Prepared.{kind_in, longest_in};
+ghost use Rattle.literal_words.specs.PreparedWords.{FindsLentWord, ForWholeWords, GivesLentWord, ScansLentWords};
+ghost use Rattle.literal_words.specs.PreparedWords.{lent_word_matches_in};
+ghost use Rattle.literal_words.specs.WholeWords.{ScansFirstWordBy, ScansWordsRest};
 
 use crate::word_search::Words;
 use literal_base::alphabet::ByteSet;
@@ -77,10 +75,7 @@ impl<'p> PreparedWords<'p> {
     /// Returns the leftmost whole word in a span of the haystack, as `WholeWords::find_in` does.
     pub fn find_in(&self, haystack: &[u8], span: Span) -> Result<Option<Match>, Damaged>
         requires { IsValidSpan haystack.now span }
-        ensures prepared { ForWholeWords self.now (λ words. IsOkAnd result (IsFirstAlone words haystack.now span)) }
-        ensures inside { IfOk result (λ answer. IfSome answer (LiesIn span)) }
-        ensures pattern { IfOk result (λ answer. IfSome answer
-            (λ found. found.pattern < slice_index self.now.numbers 3)) }
+        ensures { FindsLentWord self.now haystack.now haystack.now span result }
     {
         self.find_in_counted(haystack, span, &mut Tally::new())
     }
@@ -94,10 +89,7 @@ impl<'p> PreparedWords<'p> {
         tally: &mut Tally,
     ) -> Result<Option<Match>, Damaged>
         requires { IsValidSpan haystack.now span }
-        ensures prepared { ForWholeWords self.now (λ words. IsOkAnd result (IsFirstAlone words haystack.now span)) }
-        ensures inside { IfOk result (λ answer. IfSome answer (LiesIn span)) }
-        ensures pattern { IfOk result (λ answer. IfSome answer
-            (λ found. found.pattern < slice_index self.now.numbers 3)) }
+        ensures finds { FindsLentWord self.now haystack.now haystack.now span result }
         ensures bounded { IfOk result (λ answer. ScansFirstWordBy (longest_in self.now.numbers) span answer
             tally.old tally.new) }
         ensures rest { ScansWordsRest (longest_in self.now.numbers) span span.start no_look_ups tally.old tally.new }
@@ -124,14 +116,7 @@ impl<'p> PreparedWords<'p> {
         span: Span,
     ) -> PreparedWordMatches<'s, 'p, 'h>
         requires { IsValidSpan haystack.now span }
-        ensures { result ≡ record {
-          words = self.now;
-          haystack = haystack.now;
-          span = span;
-          at = span.start;
-          from = span.start;
-          look_ups = no_look_ups;
-        } }
+        ensures { result ≡ lent_word_matches_in self.now haystack.now span }
     {
         PreparedWordMatches {
             matches: self.find_iter_in_by_sides(haystack, haystack, span),
@@ -148,11 +133,7 @@ impl<'p> PreparedWords<'p> {
     ) -> Result<Option<Match>, Damaged>
         requires valid { IsValidSpan haystack.now span }
         requires sides { length sides.now ≡ length haystack.now }
-        ensures prepared { ForWholeWords self.now
-            (λ words. IsOkAnd result (IsFirstAloneBy words haystack.now sides.now span)) }
-        ensures inside { IfOk result (λ answer. IfSome answer (LiesIn span)) }
-        ensures pattern { IfOk result (λ answer. IfSome answer
-            (λ found. found.pattern < slice_index self.now.numbers 3)) }
+        ensures { FindsLentWord self.now haystack.now sides.now span result }
     {
         self.find_in_by_sides_counted(haystack, sides, span, &mut Tally::new())
     }
@@ -168,11 +149,7 @@ impl<'p> PreparedWords<'p> {
     ) -> Result<Option<Match>, Damaged>
         requires valid { IsValidSpan haystack.now span }
         requires sides { length sides.now ≡ length haystack.now }
-        ensures prepared { ForWholeWords self.now
-            (λ words. IsOkAnd result (IsFirstAloneBy words haystack.now sides.now span)) }
-        ensures inside { IfOk result (λ answer. IfSome answer (LiesIn span)) }
-        ensures pattern { IfOk result (λ answer. IfSome answer
-            (λ found. found.pattern < slice_index self.now.numbers 3)) }
+        ensures finds { FindsLentWord self.now haystack.now sides.now span result }
         ensures bounded { IfOk result (λ answer. ScansFirstWordBy (longest_in self.now.numbers) span answer
             tally.old tally.new) }
         ensures rest { ScansWordsRest (longest_in self.now.numbers) span span.start no_look_ups tally.old tally.new }
@@ -191,17 +168,7 @@ impl<'p> PreparedWords<'p> {
     ) -> PreparedWordMatchesBySides<'s, 'p, 'h>
         requires valid { IsValidSpan haystack.now span }
         requires sides { length sides.now ≡ length haystack.now }
-        ensures { result ≡ record {
-          matches = record {
-            words = self.now;
-            haystack = haystack.now;
-            span = span;
-            at = span.start;
-            from = span.start;
-            look_ups = no_look_ups;
-          };
-          sides = sides.now;
-        } }
+        ensures { result ≡ record { matches = lent_word_matches_in self.now haystack.now span; sides = sides.now } }
     {
         let words = Words::new(self.kind, *self.prepared.backward(), self.word_bytes);
         let longest = words.backward.table.longest;
@@ -242,42 +209,15 @@ impl<'s, 'p, 'h> PreparedWordMatches<'s, 'p, 'h> {
     /// Returns the next whole word, as `WholeWordMatches` does, or `None` after the last. With a changed array, each
     /// match still begins after the previous one. After `None` or [`Damaged`] it always answers `None`.
     pub fn next_match(&mut self) -> Result<Option<Match>, Damaged>
-        ensures prepared { ForWholeWords self.old.words (λ words. IsOkAnd result (λ answer.
-            GivesWholeWord (word_matches_by self.old words) answer (word_matches_by self.new words))) }
-        ensures inside { IfOk result (λ answer. IfSome answer (LiesIn (between self.old.at self.old.span.end))) }
-        ensures pattern { IfOk result (λ answer. IfSome answer
-            (λ found. found.pattern < slice_index self.old.words.numbers 3)) }
-        ensures goes_on { MatchResult result
-            (λ answer. (self.new.at ≡ offset_at_end self.old.span answer)
-            × (self.new.from ≡ offset_after_start self.old.span answer))
-            (λ _. (self.new.at ≡ self.old.span.end) × (self.new.from ≡ self.old.span.end)) }
-        ensures ended { self.old.from ≡ self.old.span.end → IsOkAnd result (λ answer. answer ≡ None) }
-        ensures same { self.new
-            ≡ record self.old { at = self.new.at; from = self.new.from; look_ups = self.new.look_ups } }
+        ensures { GivesLentWord self.old.haystack self.old result self.new }
     {
         self.next_counted(&mut Tally::new())
     }
 
     /// Like `next_match`, and counts in the tally as `WholeWordMatches::next_counted` does.
     pub fn next_counted(&mut self, tally: &mut Tally) -> Result<Option<Match>, Damaged>
-        ensures prepared { ForWholeWords self.old.words (λ words. IsOkAnd result (λ answer.
-            GivesWholeWord (word_matches_by self.old words) answer (word_matches_by self.new words))) }
-        ensures inside { IfOk result (λ answer. IfSome answer (LiesIn (between self.old.at self.old.span.end))) }
-        ensures pattern { IfOk result (λ answer. IfSome answer
-            (λ found. found.pattern < slice_index self.old.words.numbers 3)) }
-        ensures goes_on { MatchResult result
-            (λ answer. (self.new.at ≡ offset_at_end self.old.span answer)
-            × (self.new.from ≡ offset_after_start self.old.span answer))
-            (λ _. (self.new.at ≡ self.old.span.end) × (self.new.from ≡ self.old.span.end)) }
-        ensures ended { self.old.from ≡ self.old.span.end → IsOkAnd result (λ answer. answer ≡ None) }
-        ensures same { self.new
-            ≡ record self.old { at = self.new.at; from = self.new.from; look_ups = self.new.look_ups } }
-        ensures looks { IfOk result (λ _. LooksOn (longest_in self.old.words.numbers) self.old.span self.new.from
-            self.old.look_ups self.new.look_ups) }
-        ensures scans { IfOk result (λ _. ScansWordsBy (longest_in self.old.words.numbers) self.old.from self.new.from
-            self.old.look_ups self.new.look_ups tally.old tally.new) }
-        ensures rest { ScansWordsRest (longest_in self.old.words.numbers) self.old.span self.old.from
-            self.old.look_ups tally.old tally.new }
+        ensures gives { GivesLentWord self.old.haystack self.old result self.new }
+        ensures scans { ScansLentWords self.old result self.new tally.old tally.new }
     {
         self.matches.next_counted(tally)
     }
@@ -323,24 +263,7 @@ impl<'s, 'p, 'h> Model for PreparedWordMatchesBySides<'s, 'p, 'h> {
 impl<'s, 'p, 'h> PreparedWordMatchesBySides<'s, 'p, 'h> {
     /// Returns the next whole word, as [`PreparedWordMatches::next_match`] does.
     pub fn next_match(&mut self) -> Result<Option<Match>, Damaged>
-        ensures prepared { ForWholeWords self.old.matches.words (λ words. IsOkAnd result (λ answer.
-            GivesWholeWordBy self.old.sides (word_matches_by self.old.matches words) answer
-            (word_matches_by self.new.matches words))) }
-        ensures inside { IfOk result (λ answer. IfSome answer
-            (LiesIn (between self.old.matches.at self.old.matches.span.end))) }
-        ensures pattern { IfOk result (λ answer. IfSome answer
-            (λ found. found.pattern < slice_index self.old.matches.words.numbers 3)) }
-        ensures goes_on { MatchResult result
-            (λ answer. (self.new.matches.at ≡ offset_at_end self.old.matches.span answer)
-            × (self.new.matches.from ≡ offset_after_start self.old.matches.span answer))
-            (λ _. (self.new.matches.at ≡ self.old.matches.span.end)
-            × (self.new.matches.from ≡ self.old.matches.span.end)) }
-        ensures ended { self.old.matches.from ≡ self.old.matches.span.end → IsOkAnd result (λ answer. answer ≡ None) }
-        ensures same { self.new.matches ≡ record self.old.matches {
-          at = self.new.matches.at;
-          from = self.new.matches.from;
-          look_ups = self.new.matches.look_ups;
-        } }
+        ensures gives { GivesLentWord self.old.sides self.old.matches result self.new.matches }
         ensures sides { self.new.sides ≡ self.old.sides }
     {
         self.next_counted(&mut Tally::new())
@@ -349,32 +272,9 @@ impl<'s, 'p, 'h> PreparedWordMatchesBySides<'s, 'p, 'h> {
     /// Like `next_match`, and counts in the tally as [`PreparedWordMatches::next_counted`] does. A byte of the sides
     /// counts as a byte of the haystack.
     pub fn next_counted(&mut self, tally: &mut Tally) -> Result<Option<Match>, Damaged>
-        ensures prepared { ForWholeWords self.old.matches.words (λ words. IsOkAnd result (λ answer.
-            GivesWholeWordBy self.old.sides (word_matches_by self.old.matches words) answer
-            (word_matches_by self.new.matches words))) }
-        ensures inside { IfOk result (λ answer. IfSome answer
-            (LiesIn (between self.old.matches.at self.old.matches.span.end))) }
-        ensures pattern { IfOk result (λ answer. IfSome answer
-            (λ found. found.pattern < slice_index self.old.matches.words.numbers 3)) }
-        ensures goes_on { MatchResult result
-            (λ answer. (self.new.matches.at ≡ offset_at_end self.old.matches.span answer)
-            × (self.new.matches.from ≡ offset_after_start self.old.matches.span answer))
-            (λ _. (self.new.matches.at ≡ self.old.matches.span.end)
-            × (self.new.matches.from ≡ self.old.matches.span.end)) }
-        ensures ended { self.old.matches.from ≡ self.old.matches.span.end → IsOkAnd result (λ answer. answer ≡ None) }
-        ensures same { self.new.matches ≡ record self.old.matches {
-          at = self.new.matches.at;
-          from = self.new.matches.from;
-          look_ups = self.new.matches.look_ups;
-        } }
+        ensures gives { GivesLentWord self.old.sides self.old.matches result self.new.matches }
         ensures sides { self.new.sides ≡ self.old.sides }
-        ensures looks { IfOk result (λ _. LooksOn (longest_in self.old.matches.words.numbers) self.old.matches.span
-            self.new.matches.from self.old.matches.look_ups self.new.matches.look_ups) }
-        ensures scans { IfOk result (λ _. ScansWordsBy (longest_in self.old.matches.words.numbers)
-            self.old.matches.from self.new.matches.from self.old.matches.look_ups self.new.matches.look_ups
-            tally.old tally.new) }
-        ensures rest { ScansWordsRest (longest_in self.old.matches.words.numbers) self.old.matches.span
-            self.old.matches.from self.old.matches.look_ups tally.old tally.new }
+        ensures scans { ScansLentWords self.old.matches result self.new.matches tally.old tally.new }
     {
         let (span, at) = (self.span, self.at);
         let haystack = self.haystack;

@@ -4,14 +4,13 @@
 ghost use Rattle.std.specs.Prelude.{◌≡◌, ◌+◌, ◌-◌, ◌*◌, ◌<◌, ◌≤◌, ℕ, IfOk, IfSome, MatchOption, None, OnErr};
 ghost use Rattle.std.specs.Prelude.{false, length, min};
 ghost use Rattle.std.specs.Result.{IsOkAnd};
-ghost use Rattle.literal_base.specs.Leftmost.{IsLeftmost};
 ghost use Rattle.literal_base.specs.Occurs.{IsValidSpan, between};
 ghost use Rattle.literal_base.specs.declared.packed.MatchKind.TheVariants.{LeftmostFirst, LeftmostLongest};
 ghost use Rattle.literal_leftmost.specs.MatchesValue.{offset_after_start};
-ghost use Rattle.literal_leftmost.specs.LookUps.{LooksOn, ScansNext, ScansRest, no_look_ups};
+ghost use Rattle.literal_leftmost.specs.LookUps.{LooksOn, no_look_ups};
 ghost use Rattle.literal_words.specs.WholeWords.{IsFirstAloneBy, ScansFirstWordBy, ScansWordsBy, ScansWordsRest};
 ghost use Rattle.literal_words.specs.WholeWords.{is_word_at, is_word_before};
-ghost use Rattle.literal_leftmost.specs.Inside.Backward.{ForBackward, IsMatchBy, IsSafe};
+ghost use Rattle.literal_leftmost.specs.Inside.Backward.{IsMatchBy, IsSafe};
 ghost use Rattle.literal_leftmost.specs.Inside.Cursor.{FitsIn};
 ghost use Rattle.literal_leftmost.specs.At.{IsMatchIn};
 ghost use Rattle.literal_words.specs.Inside.WholeWords.{AreKnownStarts, AreShorter, ForWords, IsBestHere, IsBestWord};
@@ -100,39 +99,13 @@ impl<'t> Words<'t> {
         ensures fits { OnErr result (FitsIn self.now.backward.table.longest span starts.new.room) }
         ensures ended { starts.old.at ≡ span.end → IsOkAnd result (λ answer. answer ≡ None) }
     {
-        while let Some(found) = self.next_start(haystack, span, starts, tally)? {
+        let (backward, on) = (&self.backward, Continuation::AfterStart);
+        while let Some(found) = backward.next_in(haystack, span, on, starts, tally)? {
             if let Some(word) = self.best_word(haystack, sides, found, at, tally)? {
                 return Ok(Some(word));
             }
         }
         Ok(None)
-    }
-
-    /// The match at the next offset at which a pattern begins.
-    fn next_start(
-        &self,
-        haystack: &[u8],
-        span: Span,
-        starts: &mut Cursor,
-        tally: &mut Tally,
-    ) -> Result<Option<Match>, Damaged>
-        requires starts { AreKnownStarts self.now haystack.now span starts.old }
-        ensures leftmost { ForBackward self.now.backward (λ tables. IsOkAnd result (IsLeftmost tables.search.query
-            tables.search.ignore_case haystack.now (between starts.old.at span.end))) }
-        ensures lies { IfOk result (λ answer. IfSome answer (IsMatchBy self.now.backward span starts.old.at)) }
-        ensures starts { IfOk result (λ _. AreKnownStarts self.now haystack.now span starts.new) }
-        ensures at { IfOk result (λ answer. starts.new.at ≡ offset_after_start span answer) }
-        ensures looks { IfOk result (λ _. LooksOn self.now.backward.table.longest span starts.new.at
-            (starts_looked_up self.now span starts.old) (starts_looked_up self.now span starts.new)) }
-        ensures scans { IfOk result (λ _. ScansNext (starts_looked_up self.now span starts.old)
-            (starts_looked_up self.now span starts.new) tally.old tally.new) }
-        ensures rest { ScansRest self.now.backward.table.longest span (starts_looked_up self.now span starts.old)
-            tally.old tally.new }
-        ensures fits { OnErr result (FitsIn self.now.backward.table.longest span starts.new.room) }
-        ensures ended { starts.old.at ≡ span.end → IsOkAnd result (λ answer. answer ≡ None) }
-    {
-        self.backward
-            .next_in(haystack, span, Continuation::AfterStart, starts, tally)
     }
 
     /// The whole word that the match kind prefers, of those that begin where a match does and lie whole in it. If that

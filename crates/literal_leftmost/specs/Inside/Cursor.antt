@@ -1,11 +1,19 @@
 -- The state of an iteration between two matches.
-use Rattle.std.specs.Prelude.{⊤, ◌≡◌, ℕ, ◌+◌, ◌-◌, ◌*◌, ◌≤◌, List}
+use Rattle.std.specs.Prelude.{⊤, ◌≡◌, ℕ, ◌+◌, ◌-◌, ◌*◌, ◌≤◌, IfOk, IfSome, List, None, Option, Result}
+use Rattle.std.specs.Result.{IsOkAnd}
+use Rattle.literal_base.specs.Counts.{Counts}
+use Rattle.literal_base.specs.Leftmost.{IsLeftmost}
+use Rattle.literal_base.specs.MatchValue.{MatchValue}
+use Rattle.literal_base.specs.Occurs.{between}
 use Rattle.literal_base.specs.declared.search.Span.{Span}
-use Rattle.literal_leftmost.specs.Inside.Backward.{AreMarked, IsPlaced, room_for}
+use Rattle.literal_leftmost.specs.Inside.Backward.{AreMarked, ForBackward, IsMatchBy, IsPlaced, offset_by, room_for}
 use Rattle.literal_leftmost.specs.Inside.Trail.{AreTrailed, IsFar, led_to, paid_by}
-use Rattle.literal_leftmost.specs.LookUps.{LookUps}
+use Rattle.literal_leftmost.specs.LookUps.{LookUps, LooksOn, ScansNext}
+use Rattle.literal_leftmost.specs.MatchesValue.{MatchesValue}
 use Rattle.literal_leftmost.specs.Prepared.{BackTables}
-use Rattle.literal_leftmost.specs.SearchValue.{looked_by}
+use Rattle.literal_leftmost.specs.SearchValue.{SearchValue, looked_by}
+use Rattle.literal_leftmost.specs.declared.backward.Backward.{Backward}
+use Rattle.literal_leftmost.specs.declared.backward.Continuation.{Continuation}
 use Rattle.literal_leftmost.specs.declared.backward.Marks.{Marks}
 use Rattle.literal_leftmost.specs.declared.backward.TheConstants.{LEAST}
 use Rattle.literal_leftmost.specs.declared.cursor.Cursor.{Cursor}
@@ -13,6 +21,7 @@ use Rattle.literal_leftmost.specs.declared.trail.Trail.{Trail}
 use Rattle.literal_leftmost.specs.declared.cursor.Room.{Room}
 use Rattle.literal_leftmost.specs.declared.short_span.ShortCursor.{ShortCursor}
 use Rattle.literal_leftmost.specs.declared.cursor.Room.TheVariants.{Block, Trailed}
+use Rattle.literal_rows.specs.declared.damaged.Damaged.{Damaged}
 
 -- marks that are in a list of some length, which has room for those of a block
 pub record HasRoom (longest : ℕ) (span : Span) (at : ℕ) (m : Marks) (len : ℕ) : Type 0 where
@@ -62,6 +71,33 @@ looked_in longest span m (Trailed trail) = looked_far longest span trail m
 -- the same of a state
 abbrev pub look_ups_of : ℕ → Span → Cursor → LookUps
 look_ups_of longest span c = looked_in longest span c.marks c.room
+
+-- a step of an iteration, from one state to the next. By the tables of a search, its answer is the leftmost match of
+-- the rest of the span; by any tables, a match lies in it and names one of the patterns
+pub record StepsOn (b : Backward) (haystack : List ℕ) (span : Span) (on : Continuation) (old : Cursor)
+    (answer : Result (Option MatchValue) Damaged) (new : Cursor) (counts counts_new : Counts) : Type 0 where
+  pub leftmost : ForBackward b (λ tables. KnowsAhead tables haystack span old → IsOkAnd answer
+      (IsLeftmost tables.search.query tables.search.ignore_case haystack (between old.at span.end)))
+  pub knows : ForBackward b (λ tables. KnowsAhead tables haystack span old
+      → IfOk answer (λ _. KnowsAhead tables haystack span new))
+  pub lies : IfOk answer (λ found. IfSome found (IsMatchBy b span old.at))
+  pub at : IfOk answer (λ found. new.at ≡ offset_by on span found)
+  pub cursor : IfOk answer (λ _. IsCursor b.table.longest span new)
+  pub looks : IfOk answer (λ _. LooksOn b.table.longest span new.at (look_ups_of b.table.longest span old)
+      (look_ups_of b.table.longest span new))
+  pub scans : IfOk answer (λ _. ScansNext (look_ups_of b.table.longest span old)
+      (look_ups_of b.table.longest span new) counts counts_new)
+  pub ended : old.at ≡ span.end → IsOkAnd answer (λ found. found ≡ None)
+
+-- an iteration of a search as contracts see it, by its state
+abbrev pub matches_at : SearchValue → List ℕ → Span → ℕ → Cursor → MatchesValue
+matches_at search haystack span longest c = record {
+  search = search;
+  haystack = haystack;
+  span = span;
+  at = c.at;
+  look_ups = look_ups_of longest span c;
+}
 
 -- the state of an iteration over a short span, as one over any span
 abbrev pub cursor_by : ShortCursor → Cursor

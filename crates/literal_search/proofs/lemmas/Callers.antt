@@ -37,6 +37,7 @@ use Rattle.literal_base.specs.Counts.{Counts}
 use Rattle.literal_search.specs.LookUps.{ScansRest, no_look_ups}
 use Rattle.literal_search.specs.SearchValue.{ScansListAtMost, most_scanned}
 use Rattle.literal_search.specs.MatchesValue.{GivesMatch, GivesThen, MatchesValue}
+pub use Rattle.literal_search.specs.MatchesValue.{matches_in, matches_of}
 use Rattle.literal_search.specs.Overlapping.{BuildsOverlapping, OverlappingValue, AreAllThat, ComesBefore, IsOccurrence}
 use Rattle.literal_search.specs.Overlapping.{IsOverlapping}
 use Rattle.literal_search.specs.PreparedOverlapping.{Tables, overlapping_value}
@@ -163,19 +164,6 @@ pub greedy_from_yields : (m : MatchesValue) (all : List MatchValue) (n o : Match
 greedy_from_yields m all n o run nothing =
     subst (IsGreedyIn m.search.query m.search.ignore_case m.haystack (between m.at m.span.end)) (append-nil all)
     (greedy_after m all [] n run nothing.leftmost)
-
--- an iteration that has just begun, in a span, or in a whole haystack
-abbrev pub matches_in : SearchValue → List ℕ → Span → MatchesValue
-matches_in searched haystack span = record {
-  search = searched;
-  haystack = haystack;
-  span = span;
-  at = span.start;
-  look_ups = no_look_ups;
-}
-
-abbrev pub matches_of : SearchValue → List ℕ → MatchesValue
-matches_of searched haystack = matches_in searched haystack (whole_of haystack)
 
 -- what an iteration over a whole haystack scans
 pub scans_whole : (patterns : List (List ℕ)) (haystack : List ℕ) (old new : Counts)

@@ -31,7 +31,7 @@ pub loop-count-preserved : goal.loop-count-preserved
 loop-count-preserved c =
     let so_far = c.loop-count.invariant in
     let it = c.in-Some.field-0 in
-    let told = c.in_ok-next_match.ensures in
+    let told = c.in_ok-next_match.ensures.gives in
     let lies = rw c.in-Some.is at told.inside in
     let at = rw c.in-Some.is at told.goes_on.0 in
     record {
@@ -63,8 +63,8 @@ returns-clause-count c = λ search is longest.
     let (done, continue, count) = so_far.counted search is longest in
     let none = rw c.in_default.is at (first_by c.loop-count.matches c.next_match.new.self c.args.words.now
     c.args.haystack.now c.args.sides.now c.args.span c.loop-count.matches.matches.at c.in_ok-next_match.field-0
-    so_far.words
-    so_far.in_haystack so_far.sides so_far.in_span refl c.in_ok-next_match.ensures.prepared search is longest) in (
+    so_far.words so_far.in_haystack so_far.sides so_far.in_span refl c.in_ok-next_match.ensures.gives.prepared search is
+    longest) in (
       done,
       subst (AreWholeWordsBy words c.args.haystack.now c.args.sides.now c.args.span) (append-nil done) (continue []
           none),

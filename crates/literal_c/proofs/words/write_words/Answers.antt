@@ -17,7 +17,7 @@ returns-in_default-clause-page c = λ search is longest.
     let none = rw c.in_default.is at (first_by c.loop-place.matches c.next_match.new.self c.args.words.now
     c.args.haystack.now c.args.sides.now c.args.span c.loop-place.page.next c.in_ok-it.field-0 so_far.words
     so_far.in_haystack so_far.sides
-    so_far.in_span so_far.at c.in_ok-it.ensures.prepared search is longest) in
+    so_far.in_span so_far.at c.in_ok-it.ensures.gives.prepared search is longest) in
     subst (λ (new : List LiteralMatch). IsWordPageBy words c.args.haystack.now c.args.sides.now c.args.span
     c.args.found.now new
     c.loop-place.page) (sym (set-get_or c.loop-place.found c.loop-place.place-index _))
@@ -33,7 +33,7 @@ loop-place-preserved c =
     let found = c.loop-place.found in
     let it = c.in-Some.it in
     let new = c.match_for_c.result in
-    let told = c.in_ok-it.ensures in
+    let told = c.in_ok-it.ensures.gives in
     let lies = rw c.in-Some.is at told.inside in
     let pattern = rw c.in-Some.is at told.pattern in
     let at = rw c.in-Some.is at told.goes_on.0 in
@@ -75,7 +75,7 @@ returns-in-Some-2-clause-page c = λ search is longest.
     let first = rw c.in-Some-2.is at (first_by c.loop-place.matches c.next_match-2.new.self c.args.words.now
     c.args.haystack.now c.args.sides.now c.args.span c.loop-place.page.next c.in_ok-it-2.field-0 so_far.words
     so_far.in_haystack so_far.sides
-    so_far.in_span so_far.at c.in_ok-it-2.ensures.prepared search is longest) in
+    so_far.in_span so_far.at c.in_ok-it-2.ensures.gives.prepared search is longest) in
     subst (λ at. IsWordPageBy words c.args.haystack.now c.args.sides.now c.args.span c.args.found.now c.loop-place.found
     (record { written = c.loop-place.page.written; next = at; is_last = 0 })) (sym c.start.ensures.start)
     (full_page words c.args.haystack.now c.args.sides.now c.args.span c.args.found.now c.loop-place.found
@@ -90,7 +90,7 @@ returns-clause-page c = λ search is longest.
     let none = rw c.in_default-2.is at (first_by c.loop-place.matches c.next_match-2.new.self c.args.words.now
     c.args.haystack.now c.args.sides.now c.args.span c.loop-place.page.next c.in_ok-it-2.field-0 so_far.words
     so_far.in_haystack so_far.sides
-    so_far.in_span so_far.at c.in_ok-it-2.ensures.prepared search is longest) in
+    so_far.in_span so_far.at c.in_ok-it-2.ensures.gives.prepared search is longest) in
     last_page words c.args.haystack.now c.args.sides.now c.args.span c.args.found.now c.loop-place.found
     c.loop-place.place-index
     c.loop-place.page so_far.count so_far.last (omega arith) (omega arith) (so_far.continue search is longest)

@@ -1,4 +1,4 @@
-use Rattle.std.proofs.Common.{ℕ, sym, subst}
+use Rattle.std.proofs.Common.{ℕ, rules, sym, subst}
 use Rattle.literal_leftmost.specs.Inside.Backward.{AreMarked, back_tables_by}
 use Rattle.literal_leftmost.specs.Inside.Cursor.{HasRoom, looked_short}
 use Rattle.literal_leftmost.specs.LookUps.{LooksOn}
@@ -14,25 +14,28 @@ returns-in_err-answer-clause-rest c =
     c.next_match.new.marks.known c.args.tally.now c.next_match.new.tally c.requires.cursor.placed told.further.0
     told.further.1 told.bounded
 
-pub returns-clause-knows : goal.returns-clause-knows
-returns-clause-knows c = λ search is knows.
-    subst (λ (at : ℕ). AreMarked (back_tables_by search c.args.self.now) c.args.haystack.now c.args.span at
-    c.next_match.new.numbers c.next_match.new.marks) (sym c.offset_after.ensures)
-    (c.in_ok-answer.ensures.marked search is knows AtEnd)
-
-pub returns-clause-cursor : goal.returns-clause-cursor
-returns-clause-cursor c =
-    subst (λ (at : ℕ). HasRoom c.args.self.now.table.longest c.args.span at c.next_match.new.marks LEAST)
-    (sym c.offset_after.ensures)
-    (record { placed = c.in_ok-answer.ensures.placed AtEnd; room = c.requires.cursor.room })
-
-pub returns-clause-looks : goal.returns-clause-looks
-returns-clause-looks c =
+pub returns-clause-steps : goal.returns-clause-steps
+returns-clause-steps c =
     let longest = c.args.self.now.table.longest in
-    subst (λ (at : ℕ). LooksOn longest c.args.span at (looked_short longest c.args.span c.args.cursor.now.marks)
-    (looked_short longest c.args.span c.next_match.new.marks)) (sym c.offset_after.ensures)
-    (short_looks longest c.args.span c.args.cursor.now.at _ c.args.cursor.now.marks c.next_match.new.marks
-    c.requires.cursor.placed (c.in_ok-answer.ensures.placed AtEnd) c.next_match.ensures.further.0)
+    record {
+      leftmost = search rules;
+      knows = λ search is knows.
+          subst (λ (at : ℕ). AreMarked (back_tables_by search c.args.self.now) c.args.haystack.now c.args.span at
+          c.next_match.new.numbers c.next_match.new.marks) (sym c.offset_after.ensures)
+          (c.in_ok-answer.ensures.marked search is knows AtEnd);
+      lies = search rules;
+      at = search rules;
+      cursor = subst (λ (at : ℕ). HasRoom longest c.args.span at c.next_match.new.marks LEAST)
+          (sym c.offset_after.ensures)
+          (record { placed = c.in_ok-answer.ensures.placed AtEnd; room = c.requires.cursor.room });
+      looks = subst (λ (at : ℕ). LooksOn longest c.args.span at
+          (looked_short longest c.args.span c.args.cursor.now.marks)
+          (looked_short longest c.args.span c.next_match.new.marks)) (sym c.offset_after.ensures)
+          (short_looks longest c.args.span c.args.cursor.now.at _ c.args.cursor.now.marks c.next_match.new.marks
+          c.requires.cursor.placed (c.in_ok-answer.ensures.placed AtEnd) c.next_match.ensures.further.0);
+      scans = search rules;
+      ended = search rules;
+    }
 
 pub returns-clause-rest : goal.returns-clause-rest
 returns-clause-rest c =

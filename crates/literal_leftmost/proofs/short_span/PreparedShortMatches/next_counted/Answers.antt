@@ -1,11 +1,8 @@
-use Rattle.std.proofs.Common.{ℕ, ap, subst, sym}
-use Rattle.literal_leftmost.specs.Inside.Cursor.{IsCursor, KnowsAhead, cursor_by, look_ups_of}
-use Rattle.literal_leftmost.specs.LookUps.{LooksOn}
-use Rattle.literal_leftmost.specs.MatchesValue.{GivesMatch, MatchesValue}
-use Rattle.literal_leftmost.specs.Prepared.{BackTables, IsPrepared, PreparedMatchesValue, back_tables_in, longest_in}
-use Rattle.literal_leftmost.specs.Prepared.{matches_for}
-use Rattle.literal_leftmost.specs.SearchValue.{longest_of}
-use Rattle.literal_leftmost.proofs.lemmas.Prepared.{some_by}
+use Rattle.std.proofs.Common.{ℕ, Err, Ok, subst, sym}
+use Rattle.literal_leftmost.specs.Inside.Cursor.{IsCursor, cursor_by}
+use Rattle.literal_leftmost.specs.Inside.Prepared.{lent_at}
+use Rattle.literal_leftmost.specs.Prepared.{GivesLentMatch, PreparedMatchesValue, back_tables_in, longest_in}
+use Rattle.literal_leftmost.proofs.lemmas.Prepared.{lent_damaged, lent_gives, lent_goes_on}
 use Rattle.literal_leftmost.proofs.short_span.PreparedShortMatches.next_counted.Goals as goal
 
 pub next_in_short-requires-clause-cursor : goal.next_in_short-requires-clause-cursor
@@ -16,64 +13,32 @@ next_in_short-requires-clause-cursor c =
 
 pub invariant_of-self : goal.invariant_of-self
 invariant_of-self c =
-    let m = c.self.inside in
-    let goes_on = c.self.invariant.2 in
-    let told = c.in-Ok.ensures in
-    let backward = c.backward-backward.ensures in
-    let cursor = cursor_by c.next_in_short.new.cursor in (
+    let m = c.self.inside in (
       c.self.invariant.0,
       c.self.invariant.1,
-      record {
-        cursor = subst (λ (n : ℕ). IsCursor n m.span cursor) backward.longest told.cursor;
-        knows = λ search is. subst (λ (t : BackTables). KnowsAhead t m.haystack.now m.span cursor)
-            (backward.tables search)
-            (told.knows search (backward.is_for search is)
-            (subst (λ (t : BackTables). KnowsAhead t m.haystack.now m.span (cursor_by m.cursor))
-            (sym (backward.tables search)) (goes_on.knows search is)));
-      },
+      lent_goes_on m.prepared.now m.haystack.now m.span c.backward-backward.result.now c.backward-backward.ensures
+          (cursor_by m.cursor) c.self.invariant.2 (cursor_by c.next_in_short.new.cursor) _ _ c.in-Ok.answer
+          c.in-Ok.ensures.steps,
     )
 
-pub returns-in-Ok-clause-prepared : goal.returns-in-Ok-clause-prepared
-returns-in-Ok-clause-prepared c = λ search given.
+pub returns-in-Ok-clause-gives : goal.returns-in-Ok-clause-gives
+returns-in-Ok-clause-gives c =
     let m = c.self.inside in
-    let told = c.in-Ok.ensures in
-    let backward = c.backward-backward.ensures in
-    let is = subst (λ (v : PreparedMatchesValue). IsPrepared search v.numbers) (sym c.self.view_is) given in
-    let is_for = backward.is_for search is in
-    let knows = subst (λ (t : BackTables). KnowsAhead t m.haystack.now m.span (cursor_by m.cursor))
-    (sym (backward.tables search)) (c.self.invariant.2.knows search is) in
     let cursor = cursor_by c.next_in_short.new.cursor in
-    let longest = longest_in m.prepared.now in
-    let new_at = λ (at : ℕ). let v : MatchesValue = record {
-      search = search;
-      haystack = m.haystack.now;
-      span = m.span;
-      at = at;
-      look_ups = look_ups_of longest m.span cursor;
-    } in v in
-    subst (λ (v : PreparedMatchesValue). GivesMatch (matches_for search v) c.in-Ok.answer (new_at cursor.at))
-    c.self.view_is (record {
-      leftmost = told.leftmost search is_for knows;
-      not_empty = some_by c.backward-backward.result.now m.span m.cursor.at c.in-Ok.answer told.lies;
-      look_ups = look_ups_of longest m.span cursor;
-      goes_on = ap new_at told.at;
-      looks = subst (λ (at : ℕ). LooksOn (longest_of search.query.patterns) m.span at
-          (look_ups_of longest m.span (cursor_by m.cursor)) (look_ups_of longest m.span cursor)) told.at
-          (subst (λ (n : ℕ). LooksOn (longest_of search.query.patterns) m.span cursor.at
-          (look_ups_of n m.span (cursor_by m.cursor)) (look_ups_of n m.span cursor)) backward.longest
-          (subst (λ (n : ℕ). LooksOn n m.span cursor.at
-          (look_ups_of c.backward-backward.result.now.table.longest m.span (cursor_by m.cursor))
-          (look_ups_of c.backward-backward.result.now.table.longest m.span cursor)) is_for.tables.longest told.looks));
-    })
+    subst (λ (v : PreparedMatchesValue). GivesLentMatch v (Ok c.in-Ok.answer)
+    (lent_at m.prepared.now m.haystack.now m.span cursor)) c.self.view_is
+    (lent_gives m.prepared.now m.haystack.now m.span c.backward-backward.result.now c.backward-backward.ensures
+    (cursor_by m.cursor) c.self.invariant.2 cursor _ _ c.in-Ok.answer c.in-Ok.ensures.steps)
 
-pub returns-in-Err-clause-prepared : goal.returns-in-Err-clause-prepared
-returns-in-Err-clause-prepared c = λ search given.
+pub returns-in-Err-clause-gives : goal.returns-in-Err-clause-gives
+returns-in-Err-clause-gives c =
     let m = c.self.inside in
-    let backward = c.backward-backward.ensures in
-    let is = subst (λ (v : PreparedMatchesValue). IsPrepared search v.numbers) (sym c.self.view_is) given in
-    c.in-Err.ensures.leftmost search (backward.is_for search is)
-    (subst (λ (t : BackTables). KnowsAhead t m.haystack.now m.span (cursor_by m.cursor)) (sym (backward.tables search))
-    (c.self.invariant.2.knows search is))
+    let ended = cursor_by c.end.new.self in
+    subst (λ (v : PreparedMatchesValue). GivesLentMatch v (Err _)
+    (lent_at m.prepared.now m.haystack.now m.span ended)) c.self.view_is
+    (lent_damaged m.prepared.now m.haystack.now m.span c.backward-backward.result.now c.backward-backward.ensures
+    (cursor_by m.cursor) c.self.invariant.2 (cursor_by c.next_in_short.new.cursor) _ _ _ ended c.end.ensures.at
+    c.in-Err.ensures.steps)
 
 pub invariant_of-self-in-Err : goal.invariant_of-self-in-Err
 invariant_of-self-in-Err c =

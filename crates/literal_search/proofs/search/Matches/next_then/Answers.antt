@@ -1,22 +1,20 @@
-use Rattle.std.proofs.Common.{ℕ, ap, subst}
+use Rattle.std.proofs.Common.{subst}
 use Rattle.literal_leftmost.specs.Inside.Backward.{offset_by}
-use Rattle.literal_leftmost.specs.Inside.Cursor.{look_ups_of}
+use Rattle.literal_leftmost.specs.Inside.Cursor.{matches_at}
 use Rattle.literal_search.specs.Inside.Search.{search_value}
-use Rattle.literal_search.specs.LookUps.{LooksOn}
 use Rattle.literal_search.specs.MatchesValue.{GivesThen, MatchesValue}
-use Rattle.literal_search.specs.SearchValue.{longest_of}
-use Rattle.literal_leftmost.proofs.lemmas.Prepared.{some_by}
+use Rattle.literal_leftmost.proofs.lemmas.Prepared.{gives_then}
 use Rattle.literal_search.proofs.search.Matches.next_then.Goals as goal
 
 pub unreachable-requires : goal.unreachable-requires
 unreachable-requires c =
     let goes_on = c.self.invariant in
-    c.in_default.ensures.leftmost (search_value c.self.inside.parts.now) goes_on.is_for goes_on.knows
+    c.in_default.ensures.steps.leftmost (search_value c.self.inside.parts.now) goes_on.is_for goes_on.knows
 
 pub invariant_of-self : goal.invariant_of-self
 invariant_of-self c =
     let goes_on = c.self.invariant in
-    let told = c.in-Ok.ensures in
+    let told = c.in-Ok.ensures.steps in
     record {
       are = goes_on.are;
       valid = goes_on.valid;
@@ -30,24 +28,8 @@ pub returns-clause-gives : goal.returns-clause-gives
 returns-clause-gives c =
     let m = c.self.inside in
     let goes_on = c.self.invariant in
-    let told = c.in-Ok.ensures in
-    let cursor = c.next_in-next.new.cursor in
-    let longest = m.backward.table.longest in
-    let new_at = λ (at : ℕ). let v : MatchesValue = record {
-      search = search_value m.parts.now;
-      haystack = m.haystack.now;
-      span = m.span;
-      at = at;
-      look_ups = look_ups_of longest m.span cursor;
-    } in v in
-    subst (λ (v : MatchesValue). GivesThen (offset_by c.args.on) v c.in-Ok.answer (new_at cursor.at)) c.self.view_is
-    (record {
-      leftmost = told.leftmost (search_value m.parts.now) goes_on.is_for goes_on.knows;
-      not_empty = some_by m.backward m.span m.cursor.at c.in-Ok.answer told.lies;
-      look_ups = look_ups_of longest m.span cursor;
-      goes_on = ap new_at told.at;
-      looks = subst (λ (at : ℕ). LooksOn (longest_of (search_value m.parts.now).query.patterns) m.span at
-          (look_ups_of longest m.span m.cursor) (look_ups_of longest m.span cursor)) told.at
-          (subst (λ (n : ℕ). LooksOn n m.span cursor.at (look_ups_of longest m.span m.cursor)
-          (look_ups_of longest m.span cursor)) goes_on.is_for.tables.longest told.looks);
-    })
+    subst (λ (v : MatchesValue). GivesThen (offset_by c.args.on) v c.in-Ok.answer
+    (matches_at (search_value m.parts.now) m.haystack.now m.span m.backward.table.longest c.next_in-next.new.cursor))
+    c.self.view_is
+    (gives_then (search_value m.parts.now) m.backward m.haystack.now m.span c.args.on m.cursor c.in-Ok.answer
+    c.next_in-next.new.cursor _ _ goes_on.is_for goes_on.knows c.in-Ok.ensures.steps)
