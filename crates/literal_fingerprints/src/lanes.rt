@@ -12,8 +12,8 @@ pub const LANES: usize = 16;
 
 /// The number of each lane, then as often a number for which a shuffle gives 0.
 const PLACES: [u8; 2 * LANES] = [
-    0, 1, 2, 3, 4, 5, 6, 7, 8, 9, 10, 11, 12, 13, 14, 15, 255, 255, 255, 255, 255, 255, 255, 255, 255, 255, 255, 255,
-    255, 255, 255, 255,
+    0, 1, 2, 3, 4, 5, 6, 7, 8, 9, 10, 11, 12, 13, 14, 15, 255, 255, 255, 255, 255, 255, 255, 255,
+    255, 255, 255, 255, 255, 255, 255, 255,
 ];
 
 /// The bytes of a haystack from an offset on. Each counts as scanned.

@@ -85,8 +85,8 @@ impl<'t> Backward<'t> {
         Some(Match::must(0, Span { start: at, end }))
     }
 
-    /// The leftmost match of a span by the only pattern, which is short. At a candidate the haystack is compared with it,
-    /// if the scan passed over enough bytes. If it passed over few, walks look for it from there on.
+    /// The leftmost match of a span by the only pattern, which is short. At a candidate the haystack is compared with
+    /// it, if the scan passed over enough bytes. If it passed over few, walks look for it from there on.
     pub(crate) fn find_short(
         &self,
         short: &ShortPattern,

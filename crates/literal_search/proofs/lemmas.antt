@@ -5,5 +5,5 @@ pub mod NoPattern
 pub mod Relabelled
 pub mod Replaced
 pub mod ReplacedWords
-pub use Rattle.literal_pieces.proofs.lemmas.RewrittenBy
+pub mod RewrittenBy
 pub mod Texts

@@ -1,5 +1,5 @@
 -- How many bytes of a haystack are one byte.
-use Rattle.std.proofs.Common.{◌≡◌, ℕ, ◌+◌, ◌-◌, ◌≤◌, ◌∙◌, ◌%◌, ◌^◌, List, ap, arith, cond, drop, eqb, length, map}
+use Rattle.std.proofs.Common.{◌≡◌, ℕ, ◌+◌, ◌-◌, ◌≤◌, ◌∙◌, ◌%◌, ◌^◌, List, ap, arith, cond, eqb, length, map}
 use Rattle.std.proofs.Common.{replicate, sym, take, w8}
 use Rattle.std.specs.Prelude.{slice_index}
 use Rattle.std.specs.Int.RustNames.{count_ones}

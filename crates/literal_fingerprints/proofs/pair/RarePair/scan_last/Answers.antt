@@ -1,4 +1,4 @@
-use Rattle.std.proofs.Common.{◌+◌, ◌-◌, ◌≤◌, ◌∙◌, arith, inl, min, refl, sym, take}
+use Rattle.std.proofs.Common.{◌+◌, ◌-◌, ◌∙◌, arith, inl, min, refl, sym, take}
 use Rattle.std.proofs.lemmas.List.{get_or-take}
 use Rattle.literal_fingerprints.proofs.lemmas.Hits.{has_pair, lanes_upto_end, later_vector, none_upto}
 use Rattle.literal_fingerprints.proofs.pair.RarePair.scan_last.Goals as goal

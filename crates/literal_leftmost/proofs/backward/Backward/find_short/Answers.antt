@@ -82,27 +82,51 @@ first_after-requires-clause-progress c = (
 )
 
 pub returns-in_err-begun-clause-most : goal.returns-in_err-begun-clause-most
-returns-in_err-begun-clause-most c = omega (arith, c.first_after.ensures.most c.args.tally.now.scanned (after c.args.self.now c.args.span c.scan_in.result c.scan_in.ensures
-    c.args.tally.now.scanned c.loop-progress.tally.scanned c.loop-progress.progress c.loop-progress.invariant.progress))
+returns-in_err-begun-clause-most c =
+    omega (
+      arith,
+      c.first_after.ensures.most c.args.tally.now.scanned
+          (after c.args.self.now c.args.span c.scan_in.result c.scan_in.ensures c.args.tally.now.scanned
+          c.loop-progress.tally.scanned c.loop-progress.progress c.loop-progress.invariant.progress),
+    )
 
 pub returns-in_default-2-clause-most : goal.returns-in_default-2-clause-most
-returns-in_default-2-clause-most c = omega (arith, c.first_after.ensures.most c.args.tally.now.scanned (after c.args.self.now c.args.span c.scan_in.result c.scan_in.ensures
-    c.args.tally.now.scanned c.loop-progress.tally.scanned c.loop-progress.progress c.loop-progress.invariant.progress))
+returns-in_default-2-clause-most c =
+    omega (
+      arith,
+      c.first_after.ensures.most c.args.tally.now.scanned
+          (after c.args.self.now c.args.span c.scan_in.result c.scan_in.ensures c.args.tally.now.scanned
+          c.loop-progress.tally.scanned c.loop-progress.progress c.loop-progress.invariant.progress),
+    )
 
 pub returns-in_default-2-clause-counted : goal.returns-in_default-2-clause-counted
 returns-in_default-2-clause-counted c =
-    omega (arith, subst (λ (first : Option PatternStart). ReadsFor c.args.self.now.table.longest c.args.span
-    c.args.tally.now.scanned c.first_after.new.tally.scanned first) c.in_default-2.is
-    (c.in_ok-begun.ensures.counted c.args.tally.now.scanned (after c.args.self.now c.args.span c.scan_in.result c.scan_in.ensures
-    c.args.tally.now.scanned c.loop-progress.tally.scanned c.loop-progress.progress c.loop-progress.invariant.progress)))
+    omega (
+      arith,
+      subst (λ (first : Option PatternStart). ReadsFor c.args.self.now.table.longest c.args.span
+          c.args.tally.now.scanned c.first_after.new.tally.scanned first) c.in_default-2.is
+          (c.in_ok-begun.ensures.counted c.args.tally.now.scanned
+          (after c.args.self.now c.args.span c.scan_in.result c.scan_in.ensures c.args.tally.now.scanned
+          c.loop-progress.tally.scanned c.loop-progress.progress c.loop-progress.invariant.progress)),
+    )
 
 pub returns-in_err-found-clause-most : goal.returns-in_err-found-clause-most
-returns-in_err-found-clause-most c = omega (arith, c.first_after.ensures.most c.args.tally.now.scanned (after c.args.self.now c.args.span c.scan_in.result c.scan_in.ensures
-    c.args.tally.now.scanned c.loop-progress.tally.scanned c.loop-progress.progress c.loop-progress.invariant.progress))
+returns-in_err-found-clause-most c =
+    omega (
+      arith,
+      c.first_after.ensures.most c.args.tally.now.scanned
+          (after c.args.self.now c.args.span c.scan_in.result c.scan_in.ensures c.args.tally.now.scanned
+          c.loop-progress.tally.scanned c.loop-progress.progress c.loop-progress.invariant.progress),
+    )
 
 pub returns-clause-most : goal.returns-clause-most
-returns-clause-most c = omega (arith, c.first_after.ensures.most c.args.tally.now.scanned (after c.args.self.now c.args.span c.scan_in.result c.scan_in.ensures
-    c.args.tally.now.scanned c.loop-progress.tally.scanned c.loop-progress.progress c.loop-progress.invariant.progress))
+returns-clause-most c =
+    omega (
+      arith,
+      c.first_after.ensures.most c.args.tally.now.scanned
+          (after c.args.self.now c.args.span c.scan_in.result c.scan_in.ensures c.args.tally.now.scanned
+          c.loop-progress.tally.scanned c.loop-progress.progress c.loop-progress.invariant.progress),
+    )
 
 pub returns-clause-leftmost : goal.returns-clause-leftmost
 returns-clause-leftmost c = λ search is. grind (arith, leftmost_from)
@@ -111,8 +135,9 @@ pub returns-clause-counted : goal.returns-clause-counted
 returns-clause-counted c =
     let reads = subst (λ (first : Option PatternStart). ReadsFor c.args.self.now.table.longest c.args.span
     c.args.tally.now.scanned c.first_after.new.tally.scanned first) c.in-Some-2.is
-    (c.in_ok-begun.ensures.counted c.args.tally.now.scanned (after c.args.self.now c.args.span c.scan_in.result c.scan_in.ensures
-    c.args.tally.now.scanned c.loop-progress.tally.scanned c.loop-progress.progress c.loop-progress.invariant.progress)) in
+    (c.in_ok-begun.ensures.counted c.args.tally.now.scanned
+    (after c.args.self.now c.args.span c.scan_in.result c.scan_in.ensures c.args.tally.now.scanned
+    c.loop-progress.tally.scanned c.loop-progress.progress c.loop-progress.invariant.progress)) in
     let lies = c.in_ok-found.ensures.lies in (
       omega (arith, reads.0, lies.short, lies.inside, c.in_ok-found.ensures.here),
       omega (arith, reads.1, c.in_ok-found.ensures.here),

@@ -1,9 +1,5 @@
-use Rattle.std.proofs.Common.{◌≡◌, ℕ, ◌≤◌}
 use Rattle.std.proofs.Common.{arith, subst, sym}
-use Rattle.literal_base.specs.declared.search.Span.{Span}
 use Rattle.literal_leftmost.specs.Inside.Leftmost.{IsProgress}
-use Rattle.literal_leftmost.specs.declared.backward.Backward.{Backward}
-use Rattle.literal_leftmost.specs.SearchValue.{first_part}
 use Rattle.literal_leftmost.proofs.lemmas.ScanIn.{for_scan, owed_is}
 use Rattle.literal_leftmost.proofs.backward.Backward.first_begun.Goals as goal
 
