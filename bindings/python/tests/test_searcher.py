@@ -755,9 +755,10 @@ class Pieces(unittest.TestCase):
 
 class Linear(unittest.TestCase):
     def test_no_pattern_spoils_the_time(self):
-        """One search after another looks up 1,000 bytes behind each match. With the short pattern alone the time is the
-        same; the least of some is taken, since other work on the machine can take much of one."""
-        short, long, text = Search([b"a"]), Search([b"a" * 1000 + b"b", b"a"]), b"a" * (1 << 20)
+        """One search after another looks up 1,000 bytes behind each match. With short patterns alone the time is the
+        same (two of them, since one byte alone is counted in another way); the least of some is taken, since other work
+        on the machine can take much of one."""
+        short, long, text = Search([b"a", b"b"]), Search([b"a" * 1000 + b"b", b"a"]), b"a" * (1 << 20)
         for call in (long.count, lambda it: len(long.findall(it)), lambda it: len(long.split(it)) - 1,
                      lambda it: long.subn(b"", it)[1], lambda it: sum(1 for _ in long.finditer(it))):
             self.assertEqual(call(text), len(text))
