@@ -58,12 +58,12 @@ fn counts_by_an_array(rt: HostRuntime) -> Result<(), Fail> {
     Ok(())
 }
 
-/// The count of a byte in the haystack by an array of another search, with one byte.
-fn counted_of(alloc: Global, byte: u8, span: Span) -> Result<Option<usize>, Fail> {
+/// The count of a byte in a part of the haystack, by an array of another search.
+fn counted_of(alloc: Global, byte: u8) -> Result<Option<usize>, Fail> {
     let search = longest_of(alloc, &[&[byte]])?;
     let mut array = vec![in alloc; 0; search.prepared_len()]?;
     search.prepare(&mut array)?;
-    let prepared = Prepared::new(&array)?;
+    let (prepared, span) = (Prepared::new(&array)?, Span { start: 1, end: 17 });
     Ok(prepared.count_of_byte_in_counted(HAYSTACK, span, &mut Tally::new()))
 }
 
@@ -71,7 +71,7 @@ fn counted_of(alloc: Global, byte: u8, span: Span) -> Result<Option<usize>, Fail
 fn counts_one_byte_by_an_array(rt: HostRuntime) -> Result<(), Fail> {
     let (array, span) = (filled(rt.alloc())?, Span { start: 1, end: 17 });
     assert!(rt; Prepared::new(&array)?.count_of_byte_in(HAYSTACK, span) == None);
-    assert!(rt; counted_of(rt.alloc(), b' ', span)? == Some(3));
+    assert!(rt; counted_of(rt.alloc(), b' ')? == Some(3));
     Ok(())
 }
 
