@@ -10,7 +10,7 @@ use std::simd::prelude::*;
 /// The number of lanes of a vector.
 pub const LANES: usize = 16;
 
-/// The number of each lane, then as often a number for which a shuffle gives 0.
+/// The numbers of the 16 lanes, and after them 16 numbers for which a shuffle gives 0.
 const PLACES: [u8; 2 * LANES] = [
     0, 1, 2, 3, 4, 5, 6, 7, 8, 9, 10, 11, 12, 13, 14, 15, 255, 255, 255, 255, 255, 255, 255, 255,
     255, 255, 255, 255, 255, 255, 255, 255,

@@ -149,9 +149,10 @@ impl<'p> Prepared<'p> {
         backward.pass_over(&scan_in(backward.prints), haystack, span, tally)
     }
 
-    /// Returns the number of matches that [`Prepared::find_iter_in`] gives, if the array says that its only pattern is
-    /// one byte, and that case is kept; otherwise `None`. Such a count compares 32 bytes at a time, and takes no
-    /// iteration. With a changed array it may be another number, but no more than the bytes of the span.
+    /// Returns the number of matches that [`Prepared::find_iter_in`] gives, or `None` if the array does not say that
+    /// its only pattern is one byte and that case is kept. Such a count compares 32 bytes at a time, and takes no
+    /// iteration. For which arrays the answer is `None` is not claimed. With a changed array it may be another number,
+    /// but no more than the bytes of the span.
     pub fn count_of_byte_in(&self, haystack: &[u8], span: Span) -> Option<usize>
         requires { IsValidSpan haystack.now span }
         ensures count { IfSome result (λ count. ForPrepared self.now
