@@ -4,6 +4,7 @@ pub mod Far
 pub mod Halves
 pub mod Hits
 pub mod Lanes
+pub mod OneByte
 pub mod Passing
 pub mod Scan
 pub mod Sets

@@ -19,7 +19,6 @@ use crate::leftmost::{FIRST, PRICE, Progress, StepResult};
 use literal_base::count::Tally;
 use literal_base::{Match, Span};
 use literal_fingerprints::CandidateScan;
-use literal_rows::array::scan_in;
 use literal_rows::classes::CLASSES_LEN;
 use literal_rows::damaged::Damaged;
 use literal_rows::walk::class_by;
@@ -331,9 +330,7 @@ impl<'t> Backward<'t> {
         ensures counted { IfOk result
             (ReadsFor self.now.table.longest span tally.old.scanned tally.new.scanned) }
     {
-        let scan = &scan_in(self.prints);
-        let begin = self.begin_at(span);
-        let progress = self.pass_on(scan, haystack, span, begin, tally);
+        let progress = self.pass_first(haystack, span, tally);
         if progress.at == span.end {
             return Ok(None);
         }
@@ -341,6 +338,7 @@ impl<'t> Backward<'t> {
     }
 
     /// The leftmost match of a span.
+    #[inline(always)]
     pub fn find_in(
         &self,
         haystack: &[u8],
@@ -361,6 +359,9 @@ impl<'t> Backward<'t> {
             return Ok(None);
         }
         if let Some(short) = self.short() {
+            if short.len == 1 {
+                return Ok(self.find_byte(&short, haystack, span, tally));
+            }
             return self.find_short(&short, haystack, span, tally);
         }
         let near = self.find_near(haystack, span, tally)?;

@@ -1,9 +1,8 @@
 //! A short pattern, with which a list compares the haystack at candidates.
 ghost use Rattle.std.specs.Prelude.{◌≡◌, ◌+◌, ◌-◌, ◌*◌, ◌≤◌, IfOk, IfSome, MatchOption};
 ghost use Rattle.std.specs.Result.{IsOkAnd};
-ghost use Rattle.literal_base.specs.Leftmost.{IsLeftmost};
+ghost use Rattle.literal_base.specs.Leftmost.{IsLeftmost, IsLeftmostMatch};
 ghost use Rattle.literal_leftmost.specs.SearchValue.{LooksFor};
-ghost use Rattle.literal_base.specs.Leftmost.{IsLeftmostMatch};
 ghost use Rattle.literal_base.specs.Occurs.{IsValidSpan, between};
 ghost use Rattle.literal_leftmost.specs.Counted.{IsGreedyCount, IsOnlyByte};
 ghost use Rattle.literal_leftmost.specs.Inside.Backward.{ForBackward, IsMatchBy, IsOnlyOf, IsSafe, NoneBeginsAt};
@@ -12,8 +11,8 @@ use crate::backward::Backward;
 use crate::leftmost::Progress;
 use literal_base::count::Tally;
 use literal_base::{Match, Span};
-use literal_fingerprints::{ShortPattern, count_byte};
-use literal_rows::array::{SCAN_LEN, SHORT_AT, scan_in, short_by};
+use literal_fingerprints::{ShortPattern, count_byte, find_byte};
+use literal_rows::array::{SCAN_LEN, SHORT_AT, pair_scan_in, short_by};
 use literal_rows::damaged::Damaged;
 
 /// A short pattern is compared if at least this many bytes of the span are left, which is the most that it has.
@@ -87,6 +86,7 @@ impl<'t> Backward<'t> {
 
     /// The leftmost match of a span by the only pattern, which is short. At a candidate the haystack is compared with
     /// it, if the scan passed over enough bytes. If it passed over few, walks look for it from there on.
+    #[inline(always)]
     pub(crate) fn find_short(
         &self,
         short: &ShortPattern,
@@ -105,7 +105,7 @@ impl<'t> Backward<'t> {
         ensures counted { IfOk result (λ answer.
             LooksFor self.now.table.longest span answer tally.old.scanned tally.new.scanned) }
     {
-        let scan = &scan_in(self.prints);
+        let scan = &pair_scan_in(self.prints);
         let begin = self.begin_at(span);
         let mut progress = self.pass_on(scan, haystack, span, begin, tally);
         while progress.credit >= SHORTEST_REST && span.end - progress.at >= SHORTEST_REST {
@@ -127,6 +127,33 @@ impl<'t> Backward<'t> {
         };
         let found = self.match_at(haystack, span, begun.at, begun.code)?;
         Ok(Some(found))
+    }
+
+    /// The leftmost match of a span by the only pattern, which is one byte.
+    #[inline(always)]
+    pub(crate) fn find_byte(
+        &self,
+        short: &ShortPattern,
+        haystack: &[u8],
+        span: Span,
+        tally: &mut Tally,
+    ) -> Option<Match>
+        requires only { IsOnlyOf self.now short.now }
+        requires one { short.now.len ≡ 1 }
+        requires valid { IsValidSpan haystack.now span }
+        ensures leftmost { ForBackward self.now (λ tables.
+            IsLeftmost tables.search.query tables.search.ignore_case haystack.now span result) }
+        ensures lies { IfSome result (IsMatchBy self.now span span.start) }
+        ensures others { tally.new ≡ record tally.old { scanned = tally.new.scanned } }
+        ensures most { tally.new.scanned ≤ tally.old.scanned + (span.end - span.start) }
+        ensures counted { LooksFor self.now.table.longest span result tally.old.scanned tally.new.scanned }
+    {
+        let start = find_byte(haystack, span, short.bytes[0], tally);
+        if start == span.end {
+            return None;
+        }
+        let end = start + 1;
+        Some(Match::must(0, Span { start, end }))
     }
 
     /// The only pattern's byte, if it is one byte, and case is kept.

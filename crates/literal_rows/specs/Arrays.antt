@@ -1,6 +1,6 @@
 -- Searches as numbers in an array: the header, the rows and classes, and the scan for candidates.
 use Rattle.std.specs.Prelude.{◌≡◌, ◌+◌, ◌-◌, ◌*◌, ◌/◌, ◌%◌, ◌^◌, ◌<◌, ◌≤◌, ℕ, Bool, List, length, take, drop, fold}
-use Rattle.std.specs.Prelude.{◌==◌, None, Option, Some, if◌then◌else◌, slice_index, slice_range}
+use Rattle.std.specs.Prelude.{◌==◌, IsSome, None, Option, Some, if◌then◌else◌, slice_index, slice_range}
 use Rattle.std.specs.Int.Bits.{bit_xor}
 use Rattle.std.specs.List.{All}
 use Rattle.literal_fingerprints.specs.CandidateScans.{IsScanFor}
@@ -75,6 +75,14 @@ scan_by prints = record {
   skipped = (past_skipped prints - 1) % 256;
   short = short_of (unpacked (drop SHORT_AT prints));
 }
+
+-- the scan in such numbers, if it goes by a rare pair: its fingerprints, which it does not use, are any
+pub record IsPairScan (prints : List ℕ) (scan : CandidateScan) : Type 0 where
+  pub some : 0 < past_skipped prints
+  pub by_pair : IsSome scan.pair
+  pub pair : scan.pair ≡ (scan_by prints).pair
+  pub skipped : scan.skipped ≡ (scan_by prints).skipped
+  pub short : scan.short ≡ (scan_by prints).short
 
 -- a number of 32 bits, mixed so that different numbers stay different: its upper half is xored into the lower one, and
 -- the result is multiplied by an odd factor, in 32 bits

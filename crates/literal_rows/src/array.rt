@@ -1,11 +1,11 @@
 //! Searches as numbers in an array that a caller lends, without memory of their own. The array is not trusted: if a
 //! number leads out of it, the search answers [`Damaged`].
-ghost use Rattle.std.specs.Prelude.{◌≡◌, ◌+◌, ◌-◌, ◌*◌, ◌<◌, ◌≤◌, ◌^◌, ◌↔◌, ◌++◌, [], ◌∷◌, length, map};
-ghost use Rattle.std.specs.Prelude.{ℕ, IfOk, IsTrue, MatchOption, MatchResult};
+ghost use Rattle.std.specs.Prelude.{◌≡◌, ◌+◌, ◌-◌, ◌*◌, ◌%◌, ◌<◌, ◌≤◌, ◌^◌, ◌↔◌, ◌++◌, ◌⊎◌, [], ◌∷◌, length, map};
+ghost use Rattle.std.specs.Prelude.{ℕ, IfOk, IsNone, IsTrue, MatchOption, MatchResult};
 ghost use Rattle.std.specs.Prelude.{min, slice_index, slice_range};
 ghost use Rattle.std.specs.Int.{from_le_bytes, w32};
 ghost use Rattle.std.specs.List.{repeat};
-ghost use Rattle.literal_rows.specs.Arrays.{AreShort, HasParts};
+ghost use Rattle.literal_rows.specs.Arrays.{AreShort, HasParts, IsPairScan};
 ghost use Rattle.literal_rows.specs.Arrays.{check_of, check_with, joined_with, pair_of, past_skipped, scan_by};
 ghost use Rattle.literal_rows.specs.Arrays.{short_of};
 ghost use Rattle.literal_rows.specs.Patterns.{longest_of};
@@ -276,9 +276,40 @@ fn scan_by(prints: &[u32]) -> CandidateScan
     CandidateScan {
         fingerprints: Fingerprints::from_bytes(&bytes),
         pair: pair_by(&prints[PAIR_AT..SHORT_AT]),
-        skipped: (prints[0].saturating_sub(1) % 256) as u8,
+        skipped: skipped_by(prints),
         short: short_by(&prints[SHORT_AT..SCAN_LEN]),
     }
+}
+
+/// The scan for candidates that these numbers describe, if it goes by a rare pair. Such a scan does not use its
+/// fingerprints, so none are read.
+#[inline(always)]
+pub fn pair_scan_in(prints: &[u32]) -> Option<CandidateScan>
+    requires { length prints.now ≡ SCAN_LEN }
+    ensures { MatchOption result ((past_skipped prints.now ≡ 0) ⊎ IsNone (scan_by prints.now).pair)
+        (IsPairScan prints.now) }
+{
+    if prints[0] == 0 {
+        return None;
+    }
+    let Some(pair) = pair_by(&prints[PAIR_AT..SHORT_AT]) else {
+        return None;
+    };
+    Some(CandidateScan {
+        fingerprints: Fingerprints::from_bytes(&[0; BYTES]),
+        pair: Some(pair),
+        skipped: skipped_by(prints),
+        short: short_by(&prints[SHORT_AT..SCAN_LEN]),
+    })
+}
+
+/// How many bytes the scan that these numbers describe skips.
+#[inline(always)]
+fn skipped_by(prints: &[u32]) -> u8
+    requires { length prints.now ≡ SCAN_LEN }
+    ensures { result ≡ (past_skipped prints.now - 1) % 256 }
+{
+    (prints[0].saturating_sub(1) % 256) as u8
 }
 
 /// The rare pair that these numbers describe, if there is one.

@@ -27,7 +27,7 @@ pub is_hit : (rare mask byte : ℕ) → hit rare mask byte ≢ 0 → bit_or byte
 is_hit rare mask byte some = eqb-true _ _ (set_by (eqb (bit_or byte mask) rare) some)
 
 -- and the rare one is hit
-hits : (rare mask byte : ℕ) → bit_or byte mask ≡ rare → hit rare mask byte ≡ 255
+pub hits : (rare mask byte : ℕ) → bit_or byte mask ≡ rare → hit rare mask byte ≡ 255
 hits rare mask byte is = ap lane_of (eq-eqb _ _ is)
 
 some_of : (a b : ℕ) → bit_and a b ≢ 0 → (a ≢ 0) × (b ≢ 0)

@@ -13,7 +13,8 @@ use Rattle.literal_base.specs.Query.{Query}
 use Rattle.literal_base.specs.declared.search.Span.{Span}
 use Rattle.literal_base.specs.declared.packed.MatchKind.{MatchKind}
 use Rattle.literal_base.specs.declared.packed.MatchKind.TheVariants.{LeftmostFirst, LeftmostLongest}
-use Rattle.literal_fingerprints.specs.ShortPatterns.{is_byte}
+use Rattle.literal_fingerprints.specs.ShortPatterns.{IsOnly, is_byte}
+use Rattle.literal_fingerprints.specs.declared.short.ShortPattern.{ShortPattern}
 use Rattle.literal_leftmost.specs.Counted.{IsGreedyCount, IsOnlyByte}
 use Rattle.literal_base.proofs.lemmas.Callers.{bytes_at}
 
@@ -159,6 +160,52 @@ module _ (kind : MatchKind) (haystack : List ℕ) (byte : ℕ) where
           ),
         )
       ]
+
+  -- the first byte that is this one is the leftmost match
+  first_of : (start at end : ℕ) → start ≤ at → at < end → end ≤ length haystack
+      → ((k : ℕ) → start ≤ k → k < at → ¬ (get_or haystack k 0 ≡ byte)) → get_or haystack at 0 ≡ byte
+      → IsLeftmostMatch the_query false haystack (between start end) (match_at at)
+  unfolding match_at Begins
+  first_of start at end after before inside none is = record {
+    occurs = earlier start at end 0 at after (begins at end before inside is);
+    whole = refl;
+    earliest = λ i p early occurs. none p occurs.after_start early
+        (byte_is start end i p (omega (arith, after, before)) inside occurs);
+    best = λ i better occurs. none_better kind byte i occurs.is_pattern better;
+  }
+
+-- the first byte of a short pattern of one byte is this pattern
+only_byte : (short : ShortPattern) (ignore_case : Bool) (patterns : List (List ℕ))
+    → IsOnly short ignore_case patterns → short.len ≡ 1 → IsOnlyByte (get_or short.bytes 0 0) ignore_case patterns
+only_byte short ignore_case patterns only one = (
+  only.only ∙ ap (λ p. p ∷ []) (sym (byte_of short.bytes only.pattern (ap (λ n. take n short.bytes) (sym one)
+      ∙ only.is.same) only.is.some)),
+  only.with_case,
+)
+  where
+    byte_of : (bytes pattern : List ℕ) → take 1 bytes ≡ pattern → 0 < length pattern
+        → get_or bytes 0 0 ∷ [] ≡ pattern
+    byte_of [] pattern same some = absurd (omega (arith, some, ap length (sym same)))
+    byte_of (b ∷ bytes) pattern same some = same
+
+-- the first byte that is the only pattern is the leftmost match
+pub leftmost_byte : (query : Query) (ignore_case : Bool) (haystack : List ℕ) (span : Span) (short : ShortPattern)
+    → IsOnly short ignore_case query.patterns → short.len ≡ 1 → IsValidSpan haystack span → (at : ℕ)
+    → span.start ≤ at → at < span.end
+    → ((k : ℕ) → span.start ≤ k → k < at → ¬ (get_or haystack k 0 ≡ get_or short.bytes 0 0))
+    → get_or haystack at 0 ≡ get_or short.bytes 0 0
+    → IsLeftmostMatch query ignore_case haystack span (record { pattern = 0; start = at; end = at + 1 })
+unfolding match_at
+leftmost_byte query ignore_case haystack span short is one valid at after before none here =
+    let byte = get_or short.bytes 0 0 in
+    let only = only_byte short ignore_case query.patterns is one in
+    let found : MatchValue = record { pattern = 0; start = at; end = at + 1 } in
+    let first = first_of query.kind haystack byte span.start at span.end after before valid.in_haystack none here in
+    subst
+    (λ (patterns : List (List ℕ)). IsLeftmostMatch (record { kind = query.kind; patterns = patterns }) ignore_case
+    haystack span found) (sym only.0)
+    (subst (λ (c : Bool). IsLeftmostMatch (record { kind = query.kind; patterns = (byte ∷ []) ∷ [] }) c haystack span
+    found) (sym only.1) first)
 
 -- the number of matches of a pattern of one byte is the number of bytes that are this byte
 pub counted_by_byte : (query : Query) (ignore_case : Bool) (haystack : List ℕ) (span : Span) (byte : ℕ)

@@ -1,19 +1,11 @@
-use Rattle.std.proofs.Common.{◌≡◌, ◌+◌, ◌-◌, ◌<◌, ℕ, MatchOption, Option, ap, arith, rules, subst, sym}
+use Rattle.std.proofs.Common.{◌+◌, ◌-◌, Option, ap, arith, rules, subst}
 use Rattle.literal_base.specs.Counts.{Counts}
-use Rattle.literal_base.specs.declared.search.Span.{Span}
-use Rattle.literal_fingerprints.specs.declared.candidates.CandidateScan.{CandidateScan}
-use Rattle.literal_leftmost.specs.Prepared.{past_skipped, scan_by}
-use Rattle.literal_leftmost.specs.declared.backward.Backward.{Backward}
-use Rattle.literal_leftmost.specs.declared.leftmost.Progress.{Progress}
 use Rattle.literal_leftmost.specs.Inside.Backward.{NoneBeginsAt, back_tables_by}
-use Rattle.literal_leftmost.specs.Inside.Leftmost.{IsProgress, ReadsFor, owed_by, owed_in}
+use Rattle.literal_leftmost.specs.Inside.Leftmost.{IsProgress, ReadsFor}
 use Rattle.literal_leftmost.specs.declared.backward.PatternStart.{PatternStart}
 use Rattle.literal_leftmost.proofs.lemmas.Leftmost.{leftmost_from, none_on, owed_few}
-use Rattle.literal_leftmost.proofs.lemmas.ScanIn.{for_scan, owed_is}
+use Rattle.literal_leftmost.proofs.lemmas.ScanIn.{by_pair}
 use Rattle.literal_leftmost.proofs.backward.Backward.find_short.Goals as goal
-
-pub pass_on-progress-requires-clause-for_patterns : goal.pass_on-progress-requires-clause-for_patterns
-pass_on-progress-requires-clause-for_patterns c = for_scan c.args.self.now c.scan_in.result c.scan_in.ensures
 
 pub loop-progress-init : goal.loop-progress-init
 loop-progress-init c = record {
@@ -46,7 +38,7 @@ compared c =
         progress.most,
         scanned,
         c.loop-progress-test.true,
-        owed_few c.scan_in.result,
+        owed_few c.pair_scan_in.result,
       );
     }
 
@@ -69,15 +61,10 @@ loop-progress-preserved c =
       others = search rules;
     }
 
-after : (b : Backward) (span : Span) (scan : Option CandidateScan) → MatchOption scan (past_skipped b.prints.now ≡ 0)
-    (λ s. (0 < past_skipped b.prints.now) × (s ≡ scan_by b.prints.now)) → (base now : ℕ) (f : Progress)
-    → IsProgress b span (owed_by scan) base now f → IsProgress b span (owed_in b.prints.now) base now f
-after b span scan is base now f = subst (λ n. IsProgress b span n base now f) (sym (owed_is b.prints.now scan is))
-
 pub first_after-requires-clause-progress : goal.first_after-requires-clause-progress
 first_after-requires-clause-progress c = (
   c.args.tally.now.scanned,
-  after c.args.self.now c.args.span c.scan_in.result c.scan_in.ensures c.args.tally.now.scanned
+  by_pair c.args.self.now c.args.span _ c.pair_scan_in.result c.pair_scan_in.ensures c.args.tally.now.scanned
       c.loop-progress.tally.scanned c.loop-progress.progress c.loop-progress.invariant.progress,
 )
 
@@ -86,7 +73,7 @@ returns-in_err-begun-clause-most c =
     omega (
       arith,
       c.first_after.ensures.most c.args.tally.now.scanned
-          (after c.args.self.now c.args.span c.scan_in.result c.scan_in.ensures c.args.tally.now.scanned
+          (by_pair c.args.self.now c.args.span _ c.pair_scan_in.result c.pair_scan_in.ensures c.args.tally.now.scanned
           c.loop-progress.tally.scanned c.loop-progress.progress c.loop-progress.invariant.progress),
     )
 
@@ -95,7 +82,7 @@ returns-in_default-2-clause-most c =
     omega (
       arith,
       c.first_after.ensures.most c.args.tally.now.scanned
-          (after c.args.self.now c.args.span c.scan_in.result c.scan_in.ensures c.args.tally.now.scanned
+          (by_pair c.args.self.now c.args.span _ c.pair_scan_in.result c.pair_scan_in.ensures c.args.tally.now.scanned
           c.loop-progress.tally.scanned c.loop-progress.progress c.loop-progress.invariant.progress),
     )
 
@@ -106,7 +93,7 @@ returns-in_default-2-clause-counted c =
       subst (λ (first : Option PatternStart). ReadsFor c.args.self.now.table.longest c.args.span
           c.args.tally.now.scanned c.first_after.new.tally.scanned first) c.in_default-2.is
           (c.in_ok-begun.ensures.counted c.args.tally.now.scanned
-          (after c.args.self.now c.args.span c.scan_in.result c.scan_in.ensures c.args.tally.now.scanned
+          (by_pair c.args.self.now c.args.span _ c.pair_scan_in.result c.pair_scan_in.ensures c.args.tally.now.scanned
           c.loop-progress.tally.scanned c.loop-progress.progress c.loop-progress.invariant.progress)),
     )
 
@@ -115,7 +102,7 @@ returns-in_err-found-clause-most c =
     omega (
       arith,
       c.first_after.ensures.most c.args.tally.now.scanned
-          (after c.args.self.now c.args.span c.scan_in.result c.scan_in.ensures c.args.tally.now.scanned
+          (by_pair c.args.self.now c.args.span _ c.pair_scan_in.result c.pair_scan_in.ensures c.args.tally.now.scanned
           c.loop-progress.tally.scanned c.loop-progress.progress c.loop-progress.invariant.progress),
     )
 
@@ -124,7 +111,7 @@ returns-clause-most c =
     omega (
       arith,
       c.first_after.ensures.most c.args.tally.now.scanned
-          (after c.args.self.now c.args.span c.scan_in.result c.scan_in.ensures c.args.tally.now.scanned
+          (by_pair c.args.self.now c.args.span _ c.pair_scan_in.result c.pair_scan_in.ensures c.args.tally.now.scanned
           c.loop-progress.tally.scanned c.loop-progress.progress c.loop-progress.invariant.progress),
     )
 
@@ -136,7 +123,7 @@ returns-clause-counted c =
     let reads = subst (λ (first : Option PatternStart). ReadsFor c.args.self.now.table.longest c.args.span
     c.args.tally.now.scanned c.first_after.new.tally.scanned first) c.in-Some-2.is
     (c.in_ok-begun.ensures.counted c.args.tally.now.scanned
-    (after c.args.self.now c.args.span c.scan_in.result c.scan_in.ensures c.args.tally.now.scanned
+    (by_pair c.args.self.now c.args.span _ c.pair_scan_in.result c.pair_scan_in.ensures c.args.tally.now.scanned
     c.loop-progress.tally.scanned c.loop-progress.progress c.loop-progress.invariant.progress)) in
     let lies = c.in_ok-found.ensures.lies in (
       omega (arith, reads.0, lies.short, lies.inside, c.in_ok-found.ensures.here),

@@ -1,6 +1,6 @@
 use Rattle.std.proofs.Common.{arith}
 use Rattle.literal_fingerprints.proofs.lemmas.ByteCounts.{between_are}
-use Rattle.literal_fingerprints.proofs.byte_count.count_byte.Goals as goal
+use Rattle.literal_fingerprints.proofs.one_byte.count_byte.Goals as goal
 
 pub returns-clause-count : goal.returns-clause-count
 returns-clause-count c =

@@ -1,7 +1,7 @@
 use Rattle.std.proofs.Common.{◌≡◌, ◌+◌, ◌-◌, ◌≤◌, take}
 use Rattle.std.specs.List.{count_by}
 use Rattle.literal_fingerprints.specs.ShortPatterns.{is_byte}
-use Rattle.literal_fingerprints.proofs.byte_count.count_byte.Given as goal
+use Rattle.literal_fingerprints.proofs.one_byte.count_byte.Given as goal
 
 abbrev pub invariant-loop-at : goal.invariant-loop-at
 invariant-loop-at l = record {

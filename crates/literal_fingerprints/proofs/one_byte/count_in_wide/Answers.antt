@@ -1,5 +1,5 @@
 use Rattle.literal_fingerprints.proofs.lemmas.ByteCounts.{counted_in, few_in}
-use Rattle.literal_fingerprints.proofs.byte_count.count_in_wide.Goals as goal
+use Rattle.literal_fingerprints.proofs.one_byte.count_in_wide.Goals as goal
 
 pub returns-clause-few : goal.returns-clause-few
 returns-clause-few c =
