@@ -12,6 +12,7 @@ ghost use Rattle.literal_search.specs.Inside.Search.{IsShortestOf};
 
 mod builder;
 pub mod laws;
+mod matches;
 mod overlapping;
 mod overlapping_stream;
 mod patterns;
@@ -47,10 +48,11 @@ pub use literal_words::prepared_words::{
     PreparedWordMatches, PreparedWordMatchesBySides, PreparedWords,
 };
 pub use literal_words::word_text::WordText;
+pub use matches::{Matches, Starts};
 pub use overlapping::{Overlapping, OverlappingMatches};
 pub use patterns::Patterns;
 pub use replace::ReplaceError;
-pub use search::{Matches, Search, Starts};
+pub use search::Search;
 use std::alloc::{AllocError, Global};
 use std::error::Error;
 use std::fmt;

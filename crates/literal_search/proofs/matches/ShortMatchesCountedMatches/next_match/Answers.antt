@@ -4,7 +4,7 @@ use Rattle.literal_leftmost.specs.declared.backward.Continuation.TheVariants.{At
 use Rattle.literal_search.specs.Inside.Search.{search_value}
 use Rattle.literal_search.specs.MatchesValue.{GivesMatch, MatchesValue}
 use Rattle.literal_leftmost.proofs.lemmas.Prepared.{gives_then}
-use Rattle.literal_search.proofs.search.ShortMatchesCountedMatches.next_match.Goals as goal
+use Rattle.literal_search.proofs.matches.ShortMatchesCountedMatches.next_match.Goals as goal
 
 pub unreachable-requires : goal.unreachable-requires
 unreachable-requires c =

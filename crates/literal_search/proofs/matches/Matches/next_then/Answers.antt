@@ -4,7 +4,7 @@ use Rattle.literal_leftmost.specs.Inside.Cursor.{matches_at}
 use Rattle.literal_search.specs.Inside.Search.{search_value}
 use Rattle.literal_search.specs.MatchesValue.{GivesThen, MatchesValue}
 use Rattle.literal_leftmost.proofs.lemmas.Prepared.{gives_then}
-use Rattle.literal_search.proofs.search.Matches.next_then.Goals as goal
+use Rattle.literal_search.proofs.matches.Matches.next_then.Goals as goal
 
 pub unreachable-requires : goal.unreachable-requires
 unreachable-requires c =

@@ -10,7 +10,7 @@ use Rattle.literal_leftmost.proofs.lemmas.GreedyIn.{leftmost_occurs, on_err}
 use Rattle.literal_leftmost.proofs.lemmas.Iterations.{gives_from_counted, scans_each_from_yields}
 use Rattle.literal_leftmost.proofs.lemmas.Iterations.{scans_part_from_yields}
 use Rattle.literal_leftmost.proofs.lemmas.Iterations.{scans_rest_from_yields}
-use Rattle.literal_search.proofs.search.list_of.Goals as goal
+use Rattle.literal_search.proofs.matches.list_of.Goals as goal
 
 pub loop-found-preserved : goal.loop-found-preserved
 loop-found-preserved g c =

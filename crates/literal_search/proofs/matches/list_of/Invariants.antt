@@ -1,7 +1,7 @@
 use Rattle.std.proofs.Common.{◌≡◌, ◌-◌, ◌≤◌}
 use Rattle.std.specs.Iterator.{Yields}
 use Rattle.literal_search.specs.MatchesValue.{GivesCounted}
-use Rattle.literal_search.proofs.search.list_of.Given as goal
+use Rattle.literal_search.proofs.matches.list_of.Given as goal
 
 -- the list has what was found
 abbrev pub invariant-loop-found : goal.invariant-loop-found
