@@ -7,9 +7,9 @@ use Rattle.litscan.specs.declared.fault.Fault.{Fault}
 use Rattle.litscan.specs.declared.fault.Fault.TheVariants.{Ambiguous, UnknownName}
 use Rattle.litscan.specs.declared.names.Long.{Long}
 use Rattle.litscan.specs.declared.names.Long.TheVariants as long
-use Rattle.litscan.specs.declared.options.Rule.TheVariants.{Exclude, ExcludeFolder, ExcludeFrom, Include}
-use Rattle.litscan.specs.declared.options.Setting.TheVariants.{BinaryFiles, Label, Rule, Separator}
-use Rattle.litscan.specs.declared.options.Switch.TheVariants.{LineBuffered, MindCase, NoSeparator}
+use Rattle.litscan.specs.declared.names.Rule.TheVariants.{Exclude, ExcludeFolder, ExcludeFrom, Include}
+use Rattle.litscan.specs.declared.names.Setting.TheVariants.{BinaryFiles, Label, Rule, Separator}
+use Rattle.litscan.specs.declared.names.Switch.TheVariants.{LineBuffered, MindCase, NoSeparator}
 
 -- a long name and its option, as contracts see them
 pub record NamedValue : Type 0 where

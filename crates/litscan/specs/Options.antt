@@ -10,8 +10,8 @@ use Rattle.litscan.specs.declared.options.Color.TheVariants.{Always, Auto, Never
 use Rattle.litscan.specs.declared.options.Folders.{Folders}
 use Rattle.litscan.specs.declared.options.Folders.TheVariants as folders
 use Rattle.litscan.specs.declared.options.Options.{Options}
-use Rattle.litscan.specs.declared.options.Switch.{Switch}
-use Rattle.litscan.specs.declared.options.Switch.TheVariants.{LineBuffered, MindCase, NoSeparator}
+use Rattle.litscan.specs.declared.names.Switch.{Switch}
+use Rattle.litscan.specs.declared.names.Switch.TheVariants.{LineBuffered, MindCase, NoSeparator}
 
 -- the options if none is given
 abbrev pub no_options : Options

@@ -19,9 +19,9 @@ use Rattle.litscan.specs.declared.request.Next.TheVariants as next
 use Rattle.litscan.specs.declared.request.Request.{Request}
 use Rattle.litscan.specs.declared.request.Source.{Source}
 use Rattle.litscan.specs.declared.request.Source.TheVariants as source
-use Rattle.litscan.specs.declared.options.Rule.{Rule}
-use Rattle.litscan.specs.declared.options.Setting.{Setting}
-use Rattle.litscan.specs.declared.options.Setting.TheVariants as setting
+use Rattle.litscan.specs.declared.names.Rule.{Rule}
+use Rattle.litscan.specs.declared.names.Setting.{Setting}
+use Rattle.litscan.specs.declared.names.Setting.TheVariants as setting
 use Rattle.litscan.specs.declared.request.Choice.{Choice}
 use Rattle.litscan.specs.Names.{option_named}
 use Rattle.litscan.specs.Options.{behind_number, color_named, is_walking, no_options, number_of}

@@ -1,8 +1,8 @@
 -- The choice of the files to search.
 use Rattle.std.specs.Prelude.{◌≡◌, ◌||◌, ⊤, Bool, List, [], ◌∷◌, Option, Some, false, length, nat_lt, not, true}
 use Rattle.std.specs.List.{All}
-use Rattle.litscan.specs.declared.options.Rule.{Rule}
-use Rattle.litscan.specs.declared.options.Rule.TheVariants.{Exclude, ExcludeFrom}
+use Rattle.litscan.specs.declared.names.Rule.{Rule}
+use Rattle.litscan.specs.declared.names.Rule.TheVariants.{Exclude, ExcludeFrom}
 use Rattle.litscan.specs.declared.options.Folders.{Folders}
 use Rattle.litscan.specs.declared.options.Folders.TheVariants as folders
 use Rattle.litscan.specs.declared.options.Options.{Options}

@@ -1,23 +1,83 @@
-//! Holds lines until it is known whether a line after them is selected.
+//! The scan that prints selected lines with the lines around them. It reads line by line, and holds lines until it is
+//! known whether a line after them is selected.
 ghost use Rattle.std.specs.Prelude.{◌≡◌, ◌<◌, ◌+◌, ◌-◌, ◌^◌, ◌++◌, ◌&&◌, ◌⊎◌, ℕ, List, [], length, map};
-ghost use Rattle.std.specs.Prelude.{IfErr, OnOk, if◌then◌else◌, false, nat_lt, true};
+ghost use Rattle.std.specs.Prelude.{IfErr, IfOk, OnOk, if◌then◌else◌, false, nat_lt, true};
 ghost use Rattle.std.specs.Io.KnownBytes.{Appends};
 ghost use Rattle.literal_base.specs.declared.packed.MatchKind.TheVariants.{LeftmostLongest};
-ghost use Rattle.litscan.specs.Context.{Mark, PrintsGroups, lines_after, near, printed_separator};
+ghost use Rattle.litscan.specs.Context.{Mark, PrintsGroups, has_context, lines_after, near, printed_separator};
 ghost use Rattle.litscan.specs.Fault.{IsWriteFault};
 ghost use Rattle.litscan.specs.Inside.Groups.{Follows, GoesOn, IsWell, held_of, next_number, next_offset};
+ghost use Rattle.litscan.specs.Printed.{CannotRead, Reads, ReadsTooMany, StopsScan};
+ghost use Rattle.litscan.specs.Scans.{Scans, is_all};
 ghost use Rattle.literal_search.specs.SearchValue.{SearchValue};
 ghost use Rattle.litscan.specs.declared.fault.Fault.TheVariants.{OutOfMemory};
 
 use crate::color::{COLON, print_colored};
-use crate::device::Device;
+use crate::device::{Device, ReadsAhead, flush_line, read_line};
 use crate::fault::Fault;
-use crate::options::Options;
+use crate::options::{Options, is_enough};
 use crate::printing::{print_found, print_near};
+use crate::selected::{Scanned, counts, end_behind, failed_behind};
 use literal_search::Search;
 use std::alloc::Global;
 use std::collections::VecDeque;
-use std::io::Write;
+use std::io::{BufRead, Write};
+
+/// Reads a text until enough lines are selected and the lines to print after them are read. Prints the selected lines
+/// and the lines around them, and returns how many are selected.
+pub fn scan_with_context<R: BufRead + ReadsAhead, W: Write>(
+    alloc: Global,
+    search: &Search,
+    options: Options,
+    separator: &[u8],
+    any: bool,
+    name: &[u8],
+    reader: &mut Device<R>,
+    writer: &mut Device<W>,
+) -> Result<Scanned, Fault>
+    requires longest { search.now.query.kind ≡ LeftmostLongest }
+    requires context { has_context options ≡ true }
+    ensures scanned { IfOk result (λ scanned. (text out : List ℕ)
+        × (scans : Scans search.now options separator.now any name.now text scanned out)
+        × Reads scanned.failure (is_all options scanned scans.behind) (R.remaining reader.old.inner)
+        (R.remaining reader.new.inner) text
+        × Appends (W.contents writer.old.inner) (W.contents writer.new.inner) out) }
+    ensures failed { IfOk result (λ scanned. CannotRead reader.new.failure
+        (ReadsTooMany (R.remaining reader.old.inner) (R.remaining reader.new.inner)) scanned.failure) }
+    ensures error { IfErr result (StopsScan reader.new.failure writer.new.failure) }
+{
+    let mut context = Context::new(alloc, any);
+    let (mut count, mut offset) = (0, 0);
+    loop {
+        let enough = is_enough(options.limit(), count);
+        if enough && !context.is_due() {
+            return Ok(Scanned::whole(count));
+        }
+        let mut line = Vec::new(alloc);
+        let fed = match read_line(options, reader, &mut line, writer) {
+            Ok(fed) => fed,
+            Err(fault) => return failed_behind(count, fault, reader.failure()),
+        };
+        // One byte is added, so that the next line number is below 2^64 too.
+        let Some(end) = end_behind(offset, line.as_slice(), 1) else {
+            return Ok(Scanned::too_large(count));
+        };
+        if !fed && line.is_empty() {
+            return Ok(Scanned::whole(count));
+        }
+        let to_count = !enough && counts(false, search, options, line.as_slice());
+        let taken = context.take(to_count, search, options, separator, name, line, writer);
+        if let Err(fault) = taken {
+            return Err(reader.stopped_by(fault));
+        }
+        flush_line(options, writer)?;
+        count += u64::from(to_count);
+        if !fed {
+            return Ok(Scanned::whole(count));
+        }
+        offset = end;
+    }
+}
 
 /// The last lines read, which may still be printed, and how the next line is printed.
 #[derive(Drop)]

@@ -1,5 +1,5 @@
 //! Readers and writers that remember their last failure.
-ghost use Rattle.litscan.specs.Fault.{IsReadFault, IsWriteFault, write_fault};
+ghost use Rattle.litscan.specs.Fault.{IsReadFault, IsWriteFault, StopsRead, write_fault};
 ghost use Rattle.litscan.specs.Lines.{HasNoEnd, with_end};
 ghost use Rattle.litscan.specs.Scans.{BeginsWithoutZero, HasZero};
 ghost use Rattle.litscan.specs.declared.fault.Fault.TheVariants.{OutOfMemory};
@@ -210,6 +210,25 @@ pub fn flush_before_wait<R: ReadsAhead, W: Write>(
         return Ok(());
     }
     writer.flush()
+}
+
+/// Reads the next line. The writer is flushed first if the read may wait.
+pub fn read_line<R: BufRead + ReadsAhead, W: Write>(
+    options: Options,
+    reader: &mut Device<R>,
+    line: &mut Vec<u8>,
+    writer: &mut Device<W>,
+) -> Result<bool, Fault>
+    ensures bytes { IfOk result (λ fed. Consumes (R.remaining reader.old.inner) (R.remaining reader.new.inner)
+        (if fed then with_end options.line_end line.new.items else line.new.items)) }
+    ensures whole { OnOk result (HasNoEnd options.line_end line.new.items) }
+    ensures ended { IfOk result (λ fed. fed ≡ false
+        → OnSome (R.remaining reader.old.inner) (IsAtEnd (R.remaining reader.new.inner))) }
+    ensures kept { Keeps (W.contents writer.old.inner) (W.contents writer.new.inner) }
+    ensures error { IfErr result (StopsRead reader.new.failure writer.new.failure) }
+{
+    flush_before_wait(options.line_end, reader, writer)?;
+    reader.read_line(options.line_end, line)
 }
 
 /// Flushes the writer if each line is to be written at once.

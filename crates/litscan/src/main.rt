@@ -1,9 +1,9 @@
 //! Prints the lines of files that contain a word, or the matches in them: `litscan [OPTION...] WORDS [FILE...]`.
 #![tactic(auto)]
 
-mod ahead;
 mod args;
 mod asked;
+mod buffered;
 mod color;
 mod context;
 mod device;
@@ -14,7 +14,6 @@ mod input;
 mod laws;
 mod lines;
 mod names;
-mod near;
 mod options;
 mod passed;
 mod printing;

@@ -1,11 +1,47 @@
-//! The long names of options, which may be shortened.
+//! The long names of options, which may be shortened, and the options that have no letter.
 ghost use Rattle.std.specs.Prelude.{◌≡◌, map};
 ghost use Rattle.litscan.specs.Names.{begins, is_other, named_in, one_differs, option_named, shortened_in};
 ghost use Rattle.litscan.specs.Names.{value_of_named};
 
 use crate::fault::Fault;
-use crate::options::{Rule, Setting, Switch};
 use std::io::Write;
+
+/// An option that selects files or directories by name.
+#[derive(Clone, Copy)]
+pub enum Rule {
+    /// `--exclude`: these files are left out.
+    Exclude,
+    /// `--exclude-dir`: these directories are left out.
+    ExcludeFolder,
+    /// `--exclude-from`: files that a line of this file fits are left out.
+    ExcludeFrom,
+    /// `--include`: these files are not left out.
+    Include,
+}
+
+/// An option with an argument and only a long name. `--color` is not one: its argument is optional.
+#[derive(Clone, Copy)]
+pub enum Setting {
+    /// `--binary-files`: how a file that is not text is handled.
+    BinaryFiles,
+    /// `--exclude`, `--exclude-dir`, `--exclude-from` or `--include`: which files are searched.
+    Rule(Rule),
+    /// `--label`: the name of standard input.
+    Label,
+    /// `--group-separator`: the separator between groups of lines.
+    Separator,
+}
+
+/// An option with only a long name, and no argument.
+#[derive(Clone, Copy)]
+pub enum Switch {
+    /// `--line-buffered`: each line is written at once.
+    LineBuffered,
+    /// `--no-ignore-case`: ASCII case is not ignored.
+    MindCase,
+    /// `--no-group-separator`: nothing is printed between groups of lines.
+    NoSeparator,
+}
 
 /// The option of a long name.
 #[derive(Clone, Copy)]

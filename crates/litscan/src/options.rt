@@ -1,4 +1,4 @@
-//! The options of a search, and the letters and long names that set them.
+//! The options of a search, and the letters and arguments that set them.
 ghost use Rattle.std.specs.Prelude.{◌≡◌, Some, true, unwrap_or};
 ghost use Rattle.std.specs.Char.{is_ascii_digit};
 ghost use Rattle.std.specs.Str.{bytes_eq};
@@ -9,6 +9,8 @@ ghost use Rattle.litscan.specs.Options.{takes_action, takes_argument, takes_numb
 ghost use Rattle.litscan.specs.Options.{with_digit, with_digit_of_lines, with_letter, with_number, with_plain_letter};
 ghost use Rattle.litscan.specs.Options.{skips_zero, with_switch};
 ghost use Rattle.litscan.specs.Printed.{has_head};
+
+use crate::names::Switch;
 
 /// When output is coloured.
 #[derive(Clone, Copy)]
@@ -30,43 +32,6 @@ pub enum Folders {
     Skip,
     /// The files in it are searched.
     Walk,
-}
-
-/// An option that selects files or directories by name.
-#[derive(Clone, Copy)]
-pub enum Rule {
-    /// `--exclude`: these files are left out.
-    Exclude,
-    /// `--exclude-dir`: these directories are left out.
-    ExcludeFolder,
-    /// `--exclude-from`: files that a line of this file fits are left out.
-    ExcludeFrom,
-    /// `--include`: these files are not left out.
-    Include,
-}
-
-/// An option with an argument and only a long name. `--color` is not one: its argument is optional.
-#[derive(Clone, Copy)]
-pub enum Setting {
-    /// `--binary-files`: how a file that is not text is handled.
-    BinaryFiles,
-    /// `--exclude`, `--exclude-dir`, `--exclude-from` or `--include`: which files are searched.
-    Rule(Rule),
-    /// `--label`: the name of standard input.
-    Label,
-    /// `--group-separator`: the separator between groups of lines.
-    Separator,
-}
-
-/// An option with only a long name, and no argument.
-#[derive(Clone, Copy)]
-pub enum Switch {
-    /// `--line-buffered`: each line is written at once.
-    LineBuffered,
-    /// `--no-ignore-case`: ASCII case is not ignored.
-    MindCase,
-    /// `--no-group-separator`: nothing is printed between groups of lines.
-    NoSeparator,
 }
 
 /// The options of a search.

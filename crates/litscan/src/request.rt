@@ -11,10 +11,9 @@ ghost use Rattle.litscan.specs.Request.{with_words};
 
 use crate::fault::Fault;
 use crate::input::INPUT;
-use crate::names::{Long, option_named};
+use crate::names::{Long, Rule, Setting, option_named};
 use crate::options::{
-    Color, Options, Rule, Setting, color_named, number_of, takes_action, takes_argument,
-    takes_number,
+    Color, Options, color_named, number_of, takes_action, takes_argument, takes_number,
 };
 use std::alloc::Global;
 

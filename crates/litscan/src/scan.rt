@@ -1,23 +1,22 @@
 //! Decides which lines are selected (those with an allowed occurrence of a word, or with `-v` the others), and prints
 //! them.
 ghost use Rattle.literal_base.specs.declared.packed.MatchKind.TheVariants.{LeftmostLongest};
-ghost use Rattle.litscan.specs.Fault.{IsWriteFault, StopsRead};
-ghost use Rattle.litscan.specs.Inside.Passed.{PassesOthers, TakesLines, lines_read};
+ghost use Rattle.litscan.specs.Fault.{IsWriteFault};
+ghost use Rattle.litscan.specs.Inside.Passed.{lines_read};
 ghost use Rattle.litscan.specs.Lines.{lines_of};
 ghost use Rattle.litscan.specs.Options.{is_silent, limit_of};
 ghost use Rattle.litscan.specs.Printed.{CannotRead, PrintsUnlessSilent, Reads, ReadsTooMany, StopsAtEnough, StopsScan};
 ghost use Rattle.litscan.specs.Printed.{are_enough, counts, printed_behind, printed_listed};
 ghost use Rattle.litscan.specs.Scans.{Scans, is_all};
-ghost use Rattle.litscan.specs.declared.fault.Fault.TheVariants.{ReadFailed};
-ghost use Rattle.std.specs.Io.KnownBytes.{Appends, Consumes, Keeps};
+ghost use Rattle.std.specs.Io.KnownBytes.{Appends};
 ghost use Rattle.std.specs.List.{count_by};
-ghost use Rattle.std.specs.Prelude.{◌+◌, ◌<◌, ◌^◌, ◌≡◌, ◌≤◌, IfErr, IfOk, List, OnOk, length, true, ℕ};
+ghost use Rattle.std.specs.Prelude.{◌+◌, ◌<◌, ◌^◌, ◌≡◌, ◌≤◌, IfErr, IfOk, List, OnOk, length, ℕ};
 
-use crate::ahead::Ahead;
+use crate::buffered::take_ahead;
 use crate::color::{NAME, print_colored};
-use crate::device::{Device, ReadsAhead, flush_before_wait, flush_line};
+use crate::context::scan_with_context;
+use crate::device::{Device, ReadsAhead, flush_line, read_line};
 use crate::fault::Fault;
-use crate::near::{read_line, scan_near};
 use crate::options::{Options, is_enough};
 use crate::printing::print_name;
 use crate::selected::{Scanned, end_behind, failed_behind, take_line};
@@ -55,7 +54,7 @@ pub fn scan<R: BufRead + ReadsAhead, W: Write>(
     ensures error { IfErr result (StopsScan reader.new.failure writer.new.failure) }
 {
     if options.has_context() {
-        return scan_near(alloc, search, options, separator, any, name, reader, writer);
+        return scan_with_context(alloc, search, options, separator, any, name, reader, writer);
     }
     let scanned = scan_lines(alloc, search, options, name, reader, writer)?;
     print_behind(options, name, scanned.count, writer)?;
@@ -201,42 +200,6 @@ impl Gap {
     fn is_long(self) -> bool {
         !self.has_long_words || self.now.max(self.before) >= LONG
     }
-}
-
-/// Handles whole lines of the buffered bytes, up to the first one with a match, or only the first line. With `-v` it
-/// handles none if there is a limit, or if anything is printed before lines.
-fn take_ahead<R: BufRead + ReadsAhead, W: Write>(
-    search: &Search,
-    options: Options,
-    name: &[u8],
-    lines: u64,
-    offset: u64,
-    far: bool,
-    reader: &mut Device<R>,
-    writer: &mut Device<W>,
-) -> Result<Ahead, Fault>
-    requires longest { search.now.query.kind ≡ LeftmostLongest }
-    requires few { lines ≤ offset }
-    ensures takes { IfOk result (λ ahead. (text : List ℕ)
-        × Consumes (R.remaining reader.old.inner) (R.remaining reader.new.inner) text
-        × TakesLines search.now options name.now lines offset ahead text (W.contents writer.old.inner)
-        (W.contents writer.new.inner)) }
-    ensures kept { IfErr result (λ fault. fault ≡ ReadFailed
-        → Keeps (W.contents writer.old.inner) (W.contents writer.new.inner)) }
-    ensures error { IfErr result (StopsRead reader.new.failure writer.new.failure) }
-{
-    if !passes_others(options) {
-        return Ok(Ahead::none());
-    }
-    flush_before_wait(options.line_end, reader, writer)?;
-    reader.take_lines(search, options, name, lines, offset, far, writer)
-}
-
-/// Whether lines without a word may be handled together: none is selected, or all are printed as they are.
-fn passes_others(options: Options) -> bool
-    ensures { result ≡ true → PassesOthers options }
-{
-    !options.others || options.limit().is_none() && !options.has_head()
 }
 
 /// Handles the text in the buffer as a line, except an empty text at the end of the input, where no end of a line was

@@ -23,7 +23,7 @@ use Rattle.literal_search.specs.SearchValue.{SearchValue}
 use Rattle.litscan.specs.Lines.{HasNoEnd, lines_of, with_end}
 use Rattle.litscan.specs.Inside.Passed.{ArePassed, HasNoWord, HasWord, IsAhead, LiesInLine, Takes, lines_read}
 use Rattle.litscan.specs.Inside.Passed.{PassesOthers, TakesLines, len_of, len_with, next_of, prints_others}
-use Rattle.litscan.specs.declared.ahead.Ahead.{Ahead}
+use Rattle.litscan.specs.declared.buffered.Ahead.{Ahead}
 use Rattle.litscan.specs.Options.{is_enough, is_silent, limit_of}
 use Rattle.litscan.specs.Printed.{PrintsUnlessSilent, Reads, StopsAtEnough, are_enough, counts}
 use Rattle.litscan.specs.declared.options.Options.{Options}

@@ -9,7 +9,7 @@ use Rattle.literal_search.specs.SearchValue.{SearchValue}
 use Rattle.litscan.specs.Lines.{HasNoEnd, last_line, with_end}
 use Rattle.litscan.specs.Options.{is_enough, is_silent, limit_of}
 use Rattle.litscan.specs.Printed.{PrintsUnlessSilent, counts, has_head}
-use Rattle.litscan.specs.declared.ahead.Ahead.{Ahead}
+use Rattle.litscan.specs.declared.buffered.Ahead.{Ahead}
 use Rattle.litscan.specs.declared.options.Options.{Options}
 use Rattle.litscan.specs.declared.passed.Passed.{Passed}
 

@@ -1,12 +1,13 @@
-//! Handles lines where they are buffered, without a copy of them.
+//! Handles whole lines where they are buffered, without a copy of them.
 ghost use Rattle.literal_base.specs.declared.packed.MatchKind.TheVariants.{LeftmostLongest};
 ghost use Rattle.litscan.specs.Fault.{IsReadFault, IsWriteFault, StopsRead};
 ghost use Rattle.litscan.specs.Inside.Passed.{PassesOthers, TakesLines, prints_others};
 ghost use Rattle.litscan.specs.declared.fault.Fault.TheVariants.{ReadFailed};
 ghost use Rattle.std.specs.Io.KnownBytes.{Appends, Consumes, Keeps};
-ghost use Rattle.std.specs.Prelude.{◌≡◌, ◌≤◌, IfErr, IfOk, List, OnOk, [], false, if◌then◌else◌, length, take, ℕ};
+ghost use Rattle.std.specs.Prelude.{◌≡◌, ◌≤◌, IfErr, IfOk, List, OnOk, [], false, if◌then◌else◌, length, take, true};
+ghost use Rattle.std.specs.Prelude.{ℕ};
 
-use crate::device::{Device, flush_line};
+use crate::device::{Device, ReadsAhead, flush_before_wait, flush_line};
 use crate::fault::Fault;
 use crate::options::Options;
 use crate::passed::look_ahead;
@@ -41,11 +42,47 @@ impl Ahead {
     }
 }
 
+/// Handles whole lines of the buffered bytes, up to the first one with a match, or only the first line. With `-v` it
+/// handles none if there is a limit, or if anything is printed before lines.
+pub fn take_ahead<R: BufRead + ReadsAhead, W: Write>(
+    search: &Search,
+    options: Options,
+    name: &[u8],
+    lines: u64,
+    offset: u64,
+    far: bool,
+    reader: &mut Device<R>,
+    writer: &mut Device<W>,
+) -> Result<Ahead, Fault>
+    requires longest { search.now.query.kind ≡ LeftmostLongest }
+    requires few { lines ≤ offset }
+    ensures takes { IfOk result (λ ahead. (text : List ℕ)
+        × Consumes (R.remaining reader.old.inner) (R.remaining reader.new.inner) text
+        × TakesLines search.now options name.now lines offset ahead text (W.contents writer.old.inner)
+        (W.contents writer.new.inner)) }
+    ensures kept { IfErr result (λ fault. fault ≡ ReadFailed
+        → Keeps (W.contents writer.old.inner) (W.contents writer.new.inner)) }
+    ensures error { IfErr result (StopsRead reader.new.failure writer.new.failure) }
+{
+    if !passes_others(options) {
+        return Ok(Ahead::none());
+    }
+    flush_before_wait(options.line_end, reader, writer)?;
+    reader.take_lines(search, options, name, lines, offset, far, writer)
+}
+
+/// Whether lines without a word may be handled together: none is selected, or all are printed as they are.
+fn passes_others(options: Options) -> bool
+    ensures { result ≡ true → PassesOthers options }
+{
+    !options.others || options.limit().is_none() && !options.has_head()
+}
+
 impl<R: BufRead> Device<R> {
     /// Handles the lines of the buffered bytes before the first match and, if it is buffered as a whole, the line of
     /// that match. The bytes begin at this offset of the text, after so many lines. With `-v` the lines before the
     /// match are printed. `far` says whether it looks at more than the first line.
-    pub fn take_lines<W: Write>(
+    fn take_lines<W: Write>(
         &mut self,
         search: &Search,
         options: Options,

@@ -2,7 +2,7 @@ use Rattle.std.proofs.Common.{[], subst, sym}
 use Rattle.std.proofs.KnownBytes.{Consumes-nil}
 use Rattle.litscan.specs.Inside.Passed.{TakesLines}
 use Rattle.litscan.proofs.lemmas.Passing.{nothing_taken}
-use Rattle.litscan.proofs.scan.take_ahead.Goals as goal
+use Rattle.litscan.proofs.buffered.take_ahead.Goals as goal
 
 pub returns-then-not-passes_others-clause-takes : goal.returns-then-not-passes_others-clause-takes
 returns-then-not-passes_others-clause-takes g c =

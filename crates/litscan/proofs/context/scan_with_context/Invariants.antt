@@ -4,7 +4,7 @@ use Rattle.std.specs.List.{All, flat_map}
 use Rattle.litscan.specs.Inside.Groups.{next_number, next_offset}
 use Rattle.litscan.specs.Lines.{HasNoEnd, with_end}
 use Rattle.litscan.proofs.lemmas.Near.{NearSoFar}
-use Rattle.litscan.proofs.near.scan_near.Given as goal
+use Rattle.litscan.proofs.context.scan_with_context.Given as goal
 
 -- the lines that were read so far are counted, and printed or held
 abbrev pub invariant-loop-context : goal.invariant-loop-context

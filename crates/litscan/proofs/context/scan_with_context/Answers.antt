@@ -18,12 +18,12 @@ use Rattle.litscan.proofs.lemmas.Near.{near_scanned, one_if}
 use Rattle.litscan.proofs.lemmas.Printing.{length-feeds_push}
 use Rattle.litscan.proofs.lemmas.Reading.{begins_with, length-feeds_most, ok_gives, read_all, read_failed_if, read_more}
 use Rattle.litscan.proofs.lemmas.Reading.{reads_any, reads_enough, reads_front, too_many_with}
-use Rattle.litscan.proofs.near.scan_near.Goals as goal
-use Rattle.litscan.proofs.near.scan_near.Goals.{else-enough-via-else-enough}
-use Rattle.litscan.proofs.near.scan_near.Goals.{else-enough-via-then-enough+else-not-is_due}
-use Rattle.litscan.proofs.near.scan_near.Goals.{else-not-enough, then-not-enough}
-use Rattle.litscan.proofs.near.scan_near.Goals.{else-not-fed-via-else-not-fed}
-use Rattle.litscan.proofs.near.scan_near.Goals.{else-not-fed-via-then-not-fed+else-is_empty}
+use Rattle.litscan.proofs.context.scan_with_context.Goals as goal
+use Rattle.litscan.proofs.context.scan_with_context.Goals.{else-enough-via-else-enough}
+use Rattle.litscan.proofs.context.scan_with_context.Goals.{else-enough-via-then-enough+else-not-is_due}
+use Rattle.litscan.proofs.context.scan_with_context.Goals.{else-not-enough, then-not-enough}
+use Rattle.litscan.proofs.context.scan_with_context.Goals.{else-not-fed-via-else-not-fed}
+use Rattle.litscan.proofs.context.scan_with_context.Goals.{else-not-fed-via-then-not-fed+else-is_empty}
 
 no_last : (line : List ℕ) → length line ≡ 0 → last_line line ≡ []
 no_last [] empty = refl

@@ -3,7 +3,7 @@ use Rattle.std.proofs.KnownBytes.{Appends-kept}
 use Rattle.litscan.specs.Inside.Passed.{TakesLines}
 use Rattle.litscan.proofs.lemmas.Others.{few_others}
 use Rattle.litscan.proofs.lemmas.Passing.{line_taken, lines_taken, nothing_taken, takes_copy, with_line, word_behind}
-use Rattle.litscan.proofs.ahead.take_buffered.Goals as goal
+use Rattle.litscan.proofs.buffered.take_buffered.Goals as goal
 
 pub returns-in_default-clause-takes : goal.returns-in_default-clause-takes
 returns-in_default-clause-takes g c =
