@@ -1,6 +1,6 @@
-//! Searches by a lent array in texts that may continue.
-ghost use Rattle.std.specs.Prelude.{◌≡◌, ◌⊎◌, ◌+◌, ◌<◌, ◌≤◌, ◌++◌, ℕ, Bool, List, IfOk, IfSome, MatchOption};
-ghost use Rattle.std.specs.Prelude.{length, map, slice_index, take};
+//! Exports that search by an array in texts that may continue.
+ghost use Rattle.std.specs.Prelude.{◌≡◌, ◌⊎◌, ◌+◌, ◌-◌, ◌<◌, ◌≤◌, ◌++◌, Bool, IfOk, IfSome, List, MatchOption};
+ghost use Rattle.std.specs.Prelude.{length, map, slice_index, take, ℕ};
 ghost use Rattle.std.specs.Result.{IsOkAnd};
 ghost use Rattle.literal_base.specs.Occurs.{between};
 ghost use Rattle.literal_search.specs.Prepared.{ForPrepared, longest_in};
@@ -8,7 +8,8 @@ ghost use Rattle.literal_search.specs.SearchValue.{SearchValue, longest_of};
 ghost use Rattle.literal_search.specs.Stream.{AnswersSoFar, MayBeKnown};
 ghost use Rattle.literal_c.specs.Answers.{MayBePage, match_of};
 ghost use Rattle.literal_c.specs.Arguments.{IsStatusBy, is_set};
-ghost use Rattle.literal_c.specs.SoFar.{AreFirstSoFar, IsKnownPage, IsTold, IsToldBy, MayFollow, deciding_len};
+ghost use Rattle.literal_c.specs.SoFar.{AreFirstSoFar, IsKnownPage, IsTold, IsToldBy, MayFollow, TellsSoFar};
+ghost use Rattle.literal_c.specs.SoFar.{deciding_len};
 ghost use Rattle.literal_c.specs.Inside.SoFar.{IsUnknown};
 
 use crate::answers::match_for_c;
@@ -18,9 +19,47 @@ use crate::{
 };
 use literal_search::{Damaged, Match, Prepared, SoFar, Span};
 
+/// Finds the leftmost match from `start` on in a text that comes in pieces, by a search that
+/// [`literal_prepare`](crate::literal_prepare) wrote. The haystack is the held part of the text; `more` says whether
+/// anything may follow. [`LITERAL_OK`] says that `found` is the match, whatever follows, and `next` is its end.
+/// [`LITERAL_NONE`] says that no match begins before `next`, whatever follows: the bytes before it are no longer
+/// needed, and a search continues from there once more bytes have come, or the text has ended. With `more`, a match is
+/// found once the longest pattern would fit between its start and the end of the haystack; and `next` is before that
+/// end by one byte less than the longest pattern has, but at least `start`. Without `more`, `next` is that end. The
+/// status is [`LITERAL_BAD_ARGUMENTS`] if `start` is above the haystack's length, and [`LITERAL_DAMAGED`] as for
+/// [`literal_find_in`](crate::literal_find_in), which also says what holds for any array. After any status but these
+/// two the lent memory is unchanged, and after [`LITERAL_NONE`] so is `found`.
+#[unsafe(no_mangle)]
+pub extern "C" fn literal_find_so_far_in(
+    prepared: &[u32],
+    haystack: &[u8],
+    start: usize,
+    more: u32,
+    found: &mut LiteralMatch,
+    next: &mut usize,
+) -> i32
+    ensures status { IsStatusBy prepared.now (start ≤ length haystack.now)
+        (λ status. (status ≡ LITERAL_OK) ⊎ (status ≡ LITERAL_NONE)) result }
+    ensures told { (result ≡ LITERAL_OK) ⊎ (result ≡ LITERAL_NONE)
+        → TellsSoFar prepared.now haystack.now start (is_set more) result found.new next.new }
+    ensures as_before { (result ≡ LITERAL_OK) ⊎ (found.new ≡ found.old) }
+    ensures next_as_before { ((result ≡ LITERAL_OK) ⊎ (result ≡ LITERAL_NONE)) ⊎ (next.new ≡ next.old) }
+{
+    if start > haystack.len() {
+        return LITERAL_BAD_ARGUMENTS;
+    }
+    let Ok(search) = Prepared::new(prepared) else {
+        return LITERAL_DAMAGED;
+    };
+    match find_so_far(&search, haystack, start, more != 0) {
+        Err(Damaged) => LITERAL_DAMAGED,
+        Ok(answer) => tell_so_far(answer, found, next),
+    }
+}
+
 /// What is known of the leftmost match from an offset on. The haystack begins a text, and is all of it if no more may
 /// follow.
-pub fn find_so_far(
+fn find_so_far(
     search: &Prepared<'_>,
     haystack: &[u8],
     start: usize,
@@ -44,7 +83,7 @@ pub fn find_so_far(
 }
 
 /// Writes what is known for C, and returns the status.
-pub fn tell_so_far(answer: SoFar, found: &mut LiteralMatch, next: &mut usize) -> i32
+fn tell_so_far(answer: SoFar, found: &mut LiteralMatch, next: &mut usize) -> i32
     ensures told { IsToldBy answer result found.new next.new }
     ensures as_before { (result ≡ LITERAL_OK) ⊎ (found.new ≡ found.old) }
 {

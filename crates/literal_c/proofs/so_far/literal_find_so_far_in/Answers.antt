@@ -4,7 +4,7 @@ use Rattle.literal_c.specs.Arguments.{is_set}
 use Rattle.literal_c.specs.SoFar.{IsRight, IsToldBy}
 use Rattle.literal_c.proofs.lemmas.SoFar.{crosses, may_be_all}
 use Rattle.literal_c.proofs.lemmas.Statuses.{damaged}
-use Rattle.literal_c.proofs.literal_find_so_far_in.Goals as goal
+use Rattle.literal_c.proofs.so_far.literal_find_so_far_in.Goals as goal
 
 pub returns-in-Err-clause-status : goal.returns-in-Err-clause-status
 returns-in-Err-clause-status c =

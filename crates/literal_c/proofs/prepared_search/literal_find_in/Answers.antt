@@ -5,7 +5,7 @@ use Rattle.literal_base.specs.Occurs.{between}
 use Rattle.literal_search.specs.Prepared.{ForPrepared, IsPrepared}
 use Rattle.literal_c.specs.Answers.{match_of}
 use Rattle.literal_c.proofs.lemmas.Statuses.{damaged}
-use Rattle.literal_c.proofs.literal_find_in.Goals as goal
+use Rattle.literal_c.proofs.prepared_search.literal_find_in.Goals as goal
 
 pub returns-in-Err-clause-status : goal.returns-in-Err-clause-status
 returns-in-Err-clause-status c =

@@ -1,7 +1,7 @@
 use Rattle.std.proofs.Common.{inl, refl, subst}
 use Rattle.literal_search.specs.Overlapping.{OverlappingValue}
 use Rattle.literal_search.specs.PreparedOverlapping.{RefusesOverlapping}
-use Rattle.literal_c.proofs.literal_prepare_overlapping.Goals as goal
+use Rattle.literal_c.proofs.prepare.literal_prepare_overlapping.Goals as goal
 
 pub returns-in-Ok-prepare-clause-status : goal.returns-in-Ok-prepare-clause-status
 returns-in-Ok-prepare-clause-status c = inl (record {

@@ -4,7 +4,7 @@ use Rattle.literal_search.specs.MatchesValue.{MatchesValue}
 use Rattle.literal_search.specs.SearchValue.{SearchValue}
 use Rattle.literal_c.specs.Answers.{IsPage}
 use Rattle.literal_c.specs.Arguments.{argument_search}
-use Rattle.literal_c.proofs.literal_find_all.Goals as goal
+use Rattle.literal_c.proofs.searches.literal_find_all.Goals as goal
 
 pub returns-clause-page : goal.returns-clause-page
 returns-clause-page c = λ _.

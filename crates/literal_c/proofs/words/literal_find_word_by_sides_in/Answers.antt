@@ -4,7 +4,7 @@ use Rattle.literal_search.specs.WholeWords.{IsLeftmostAloneBy, NothingAloneBy}
 use Rattle.literal_c.specs.Answers.{match_of}
 use Rattle.literal_c.specs.Words.{ForAsciiWords, sides_by}
 use Rattle.literal_c.proofs.lemmas.Words.{for_ascii}
-use Rattle.literal_c.proofs.sides.literal_find_word_by_sides_in.Goals as goal
+use Rattle.literal_c.proofs.words.literal_find_word_by_sides_in.Goals as goal
 
 pub returns-in-Ok-None-clause-none : goal.returns-in-Ok-None-clause-none
 returns-in-Ok-None-clause-none c = λ _.

@@ -4,7 +4,7 @@ use Rattle.literal_search.specs.PreparedOverlapping.{ForOverlapping, IsPreparedO
 use Rattle.literal_search.specs.PreparedOverlapping.{PreparedOverlappingMatchesValue, matches_for}
 use Rattle.literal_c.specs.Overlapping.{all_that_occurs}
 use Rattle.literal_c.proofs.lemmas.Statuses.{damaged, some_room}
-use Rattle.literal_c.proofs.literal_find_overlapping_in.Goals as goal
+use Rattle.literal_c.proofs.occurrences.literal_find_overlapping_in.Goals as goal
 
 pub returns-in-Err-clause-status : goal.returns-in-Err-clause-status
 returns-in-Err-clause-status c =

@@ -2,7 +2,7 @@ use Rattle.std.proofs.Common.{length, ap, arith, subst, sym}
 use Rattle.literal_search.specs.Prepared.{ForPrepared, IsPrepared}
 use Rattle.literal_c.proofs.lemmas.Pieces.{pieces_are_as_many}
 use Rattle.literal_c.proofs.lemmas.Statuses.{damaged}
-use Rattle.literal_c.proofs.literal_find_each_in.Goals as goal
+use Rattle.literal_c.proofs.prepared_search.literal_find_each_in.Goals as goal
 
 pub answer_each-requires : goal.answer_each-requires
 answer_each-requires c = omega (

@@ -4,7 +4,7 @@ use Rattle.literal_search.specs.Overlapping.{OverlappingValue}
 use Rattle.literal_search.specs.OverlappingMatchesValue.{OverlappingMatchesValue}
 use Rattle.literal_c.specs.Overlapping.{IsOverlappingPage, all_that_occurs}
 use Rattle.literal_c.proofs.lemmas.Statuses.{done, some_room}
-use Rattle.literal_c.proofs.literal_find_overlapping.Goals as goal
+use Rattle.literal_c.proofs.occurrences.literal_find_overlapping.Goals as goal
 
 pub returns-clause-status : goal.returns-clause-status
 returns-clause-status c =

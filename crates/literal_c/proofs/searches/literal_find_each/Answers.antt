@@ -1,6 +1,6 @@
 use Rattle.std.proofs.Common.{length, ap, arith}
 use Rattle.literal_c.proofs.lemmas.Pieces.{pieces_are_as_many}
-use Rattle.literal_c.proofs.literal_find_each.Goals as goal
+use Rattle.literal_c.proofs.searches.literal_find_each.Goals as goal
 
 pub answer_each-requires : goal.answer_each-requires
 answer_each-requires c = omega (
