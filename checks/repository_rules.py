@@ -30,7 +30,7 @@ CITATIONS = re.compile(
 # Elsewhere a folder of such a name is one of proofs, of a function that is called so.
 NOT_READ = re.compile(
     r"\.git|dist/\w+-linux-gnu|checks/refused|(?:crates/\w+/|bindings/)?out|bindings/rust/(?:lib|target)"
-    r"|(?:checks|bindings/(?:c|\w+/\w+))/__pycache__|.*\.so"
+    r"|(?:checks|bindings/(?:c|\w+/\w+))/__pycache__|.*\.so|dist/.*\.whl"
 )
 
 LONGEST_FILE, LONGEST_README = 800, 130

@@ -3,8 +3,7 @@
 #ifndef LITERAL_SEARCH_COLUMN_H
 #define LITERAL_SEARCH_COLUMN_H
 
-#define PY_SSIZE_T_CLEAN
-#include <Python.h>
+#include "_python.h"
 
 #include "_match.h"
 #include "_prepared.h"

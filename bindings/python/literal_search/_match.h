@@ -6,17 +6,16 @@
 #ifndef LITERAL_SEARCH_MATCH_H
 #define LITERAL_SEARCH_MATCH_H
 
-#define PY_SSIZE_T_CLEAN
-#include <Python.h>
+#include "_python.h"
 
 #include "_text.h"
 
 enum { PATTERN, START, END, SHOWN, WHOLE_TEXT = SHOWN, VALUES, ITEMS };
 
-static PyTypeObject match_type;
+static PyTypeObject *match_type;
 
-static PyObject **items_of(PyObject *match) {
-    return ((PyTupleObject *)match)->ob_item;
+static PyObject **items_of(PyObject *tuple) {
+    return (PyObject **)(void *)((char *)tuple + items_at);
 }
 
 /* The memory of some matches that are gone, for the next ones: an iteration needs one or two at a time. */
@@ -28,16 +27,15 @@ static size_t freed_count;
 static PyObject *empty_match(void) {
     PyObject *match = freed_count > 0 ? freed[--freed_count] : NULL;
     if (match)
-        PyObject_InitVar((PyVarObject *)match, &match_type, ITEMS);
+        PyObject_InitVar((PyVarObject *)match, match_type, ITEMS);
     else
-        match = (PyObject *)PyObject_GC_NewVar(PyTupleObject, &match_type, ITEMS);
+        match = (PyObject *)PyObject_GC_NewVar(PyVarObject, match_type, ITEMS);
     if (!match)
         return NULL;
     memset(items_of(match), 0, ITEMS * sizeof(PyObject *));
-    Py_SET_SIZE(match, SHOWN);
-#if PY_VERSION_HEX >= 0x030E0000
-    ((PyTupleObject *)match)->ob_hash = -1;
-#endif
+    Py_SET_SIZE((PyVarObject *)match, SHOWN);
+    if (items_at > sizeof(PyVarObject)) /* (from Python 3.14 on a hash is kept there, which is -1 before it is known) */
+        memset((PyVarObject *)match + 1, 0xFF, items_at - sizeof(PyVarObject));
     return match;
 }
 
@@ -88,12 +86,14 @@ static PyObject *match_new(PyTypeObject *type, PyObject *given, PyObject *named)
 
 /* It lets go what it leads to, so nothing is cleared here. */
 static int match_traverse(PyObject *of, visitproc visit, void *arg) {
+    Py_VISIT(Py_TYPE(of));
     Py_VISIT(items_of(of)[WHOLE_TEXT]);
     Py_VISIT(items_of(of)[VALUES]);
     return 0;
 }
 
 static void match_dealloc(PyObject *of) {
+    PyTypeObject *type = Py_TYPE(of);
     PyObject_GC_UnTrack(of);
     for (int i = 0; i < ITEMS; i++)
         Py_XDECREF(items_of(of)[i]);
@@ -101,6 +101,7 @@ static void match_dealloc(PyObject *of) {
         freed[freed_count++] = of;
     else
         PyObject_GC_Del(of);
+    Py_DECREF(type);
 }
 
 static PyObject *match_repr(PyObject *of) {
@@ -164,7 +165,7 @@ static PyObject *match_reduce(PyObject *of, PyObject *unused) {
     PyObject **items = items_of(of), *group = matched(of), *value = match_value(of, NULL), *reduced = NULL;
     (void)unused;
     if (group && value)
-        reduced = Py_BuildValue("O(OOOOO)", &match_type, items[PATTERN], items[START], items[END], group, value);
+        reduced = Py_BuildValue("O(OOOOO)", match_type, items[PATTERN], items[START], items[END], group, value);
     Py_XDECREF(group);
     Py_XDECREF(value);
     return reduced;
@@ -190,29 +191,32 @@ PyDoc_STRVAR(match_doc, "Match(pattern, start, end, group=None, value=None)\n--\
 "A match: the number of its pattern, and the offsets of its start and after its end. In a str offsets count\n"
 "characters, in other texts bytes. It equals the tuple of the three, and keeps its text alive.");
 
-static PyTypeObject match_type = {
-    PyVarObject_HEAD_INIT(NULL, 0)
-    .tp_name = "literal_search.Match",
-    .tp_doc = match_doc,
-    .tp_base = &PyTuple_Type,
-    .tp_flags = Py_TPFLAGS_DEFAULT | Py_TPFLAGS_HAVE_GC,
-    .tp_new = match_new,
-    .tp_dealloc = match_dealloc,
-    .tp_traverse = match_traverse,
-    .tp_repr = match_repr,
-    .tp_methods = match_methods,
-    .tp_getset = match_members,
+static PyType_Slot match_slots[] = {
+    {Py_tp_doc, (void *)match_doc},
+    {Py_tp_base, &PyTuple_Type},
+    {Py_tp_new, match_new},
+    {Py_tp_dealloc, match_dealloc},
+    {Py_tp_traverse, match_traverse},
+    {Py_tp_repr, match_repr},
+    {Py_tp_methods, match_methods},
+    {Py_tp_getset, match_members},
+    {0},
 };
 
-/* Makes the type ready, with the names of its items for `match` and for whoever asks a tuple with names. */
+static PyType_Spec match_spec = {
+    .name = "literal_search.Match",
+    .flags = Py_TPFLAGS_DEFAULT | Py_TPFLAGS_HAVE_GC,
+    .slots = match_slots,
+};
+
+/* Makes the type, with the names of its items for `match` and for whoever asks a tuple with names. */
 static int match_ready(void) {
-    if (PyType_Ready(&match_type))
-        return -1;
     PyObject *names = Py_BuildValue("(sss)", "pattern", "start", "end");
-    int status = !names || PyDict_SetItemString(match_type.tp_dict, "_fields", names) ||
-                 PyDict_SetItemString(match_type.tp_dict, "__match_args__", names) ? -1 : 0;
+    PyObject *type = names && !find_items(names) ? PyType_FromSpec(&match_spec) : NULL;
+    int status = !type || PyObject_SetAttrString(type, "_fields", names) ||
+                 PyObject_SetAttrString(type, "__match_args__", names) ? -1 : 0;
     Py_XDECREF(names);
-    PyType_Modified(&match_type);
+    match_type = (PyTypeObject *)type;
     return status;
 }
 

@@ -6,9 +6,7 @@
  * other threads run, and behind each piece signals are looked for.
  *
  * Nothing here is proved. The library is; it is handed what the header asks for. */
-#define PY_SSIZE_T_CLEAN
-#include <Python.h>
-#include <structmember.h>
+#include "_python.h"
 
 #include "_column.h"
 #include "_match.h"
@@ -318,19 +316,20 @@ static PyObject *search_count_overlapping(PyObject *self, PyObject *const *given
     return count_of((Prepared *)self, given, count, names, true);
 }
 
-static PyTypeObject matches_type;
+static PyTypeObject *matches_type;
 
 /* An iterator over all that a walk finds. */
 static PyObject *iterator_of(Prepared *self, PyObject *const *given, Py_ssize_t count, PyObject *names, bool for_all) {
     PyObject *asked[3];
     if (arguments(OF_SEARCH, 1, given, count, names, asked))
         return NULL;
-    Matches *matches = PyObject_GC_New(Matches, &matches_type);
+    Matches *matches = PyObject_GC_New(Matches, matches_type);
     if (!matches)
         return NULL;
     matches->is_running = false;
     if (walk_begin(&matches->walk, self, for_all, asked)) {
         PyObject_GC_Del(matches);
+        Py_DECREF(matches_type);
         return NULL;
     }
     PyObject_GC_Track(matches);
@@ -488,6 +487,7 @@ static PyObject *matches_next(PyObject *self) {
 
 static int matches_traverse(PyObject *self, visitproc visit, void *arg) {
     Walk *walk = &((Matches *)self)->walk;
+    Py_VISIT(Py_TYPE(self));
     Py_VISIT(walk->search);
     Py_VISIT(walk->text.of);
     Py_VISIT(walk->text.buffer.obj);
@@ -500,22 +500,28 @@ static int matches_clear(PyObject *self) {
 }
 
 static void matches_dealloc(PyObject *self) {
+    PyTypeObject *type = Py_TYPE(self);
     PyObject_GC_UnTrack(self);
     walk_end(&((Matches *)self)->walk);
     PyObject_GC_Del(self);
+    Py_DECREF(type);
 }
 
-static PyTypeObject matches_type = {
-    PyVarObject_HEAD_INIT(NULL, 0)
-    .tp_name = "literal_search._native.Matches",
-    .tp_doc = "What finditer and finditer_overlapping give.",
-    .tp_basicsize = sizeof(Matches),
-    .tp_flags = Py_TPFLAGS_DEFAULT | Py_TPFLAGS_HAVE_GC,
-    .tp_dealloc = matches_dealloc,
-    .tp_traverse = matches_traverse,
-    .tp_clear = matches_clear,
-    .tp_iter = PyObject_SelfIter,
-    .tp_iternext = matches_next,
+static PyType_Slot matches_slots[] = {
+    {Py_tp_doc, (void *)"What finditer and finditer_overlapping give."},
+    {Py_tp_dealloc, matches_dealloc},
+    {Py_tp_traverse, matches_traverse},
+    {Py_tp_clear, matches_clear},
+    {Py_tp_iter, PyObject_SelfIter},
+    {Py_tp_iternext, matches_next},
+    {0},
+};
+
+static PyType_Spec matches_spec = {
+    .name = "literal_search._native.Matches",
+    .basicsize = sizeof(Matches),
+    .flags = Py_TPFLAGS_DEFAULT | Py_TPFLAGS_IMMUTABLETYPE | Py_TPFLAGS_DISALLOW_INSTANTIATION | Py_TPFLAGS_HAVE_GC,
+    .slots = matches_slots,
 };
 
 /* ---- How a searcher begins ---- */
@@ -621,13 +627,16 @@ PyDoc_STRVAR(sizeof_doc, "__sizeof__($self, /)\n--\n\n"
 
 static PyObject *search_sizeof(PyObject *of, PyObject *unused) {
     const Prepared *self = (Prepared *)of;
-    size_t size = (size_t)Py_TYPE(of)->tp_basicsize + self->pieces.len + self->pieces.count * sizeof(size_t);
+    PyObject *const parts[3] = {of, self->prepared, self->for_all};
+    size_t size = self->pieces.len + self->pieces.count * sizeof(size_t);
     (void)unused;
-    for (int i = 0; i < 2; i++) {
-        PyObject *array = i ? self->for_all : self->prepared;
-        size += array ? (size_t)(PyBytes_Type.tp_basicsize + PyBytes_GET_SIZE(array)) : 0;
+    for (int i = 0; i < 3 && !PyErr_Occurred(); i++) {
+        PyObject *type = (PyObject *)&PyBaseObject_Type;
+        PyObject *len = parts[i] ? PyObject_CallMethod(type, "__sizeof__", "O", parts[i]) : NULL;
+        size += len ? PyLong_AsSize_t(len) : 0;
+        Py_XDECREF(len);
     }
-    return PyLong_FromSize_t(size);
+    return PyErr_Occurred() ? NULL : PyLong_FromSize_t(size);
 }
 
 PyDoc_STRVAR(plain_bytes_doc, "plain_bytes(of, name, /)\n--\n\n"
@@ -656,6 +665,7 @@ static PyObject *module_texts_of(PyObject *unused, PyObject *from) {
 /* A pattern of a subclass of str can lead to its searcher, and so can a value. They let go what they lead to, so nothing
  * is cleared here. */
 static int search_traverse(PyObject *of, visitproc visit, void *arg) {
+    Py_VISIT(Py_TYPE(of));
     Py_VISIT(((Prepared *)of)->patterns);
     Py_VISIT(((Prepared *)of)->values);
     return 0;
@@ -663,13 +673,15 @@ static int search_traverse(PyObject *of, visitproc visit, void *arg) {
 
 static void search_dealloc(PyObject *of) {
     Prepared *self = (Prepared *)of;
+    PyTypeObject *type = Py_TYPE(of);
     PyObject_GC_UnTrack(of);
     Py_XDECREF(self->patterns);
     Py_XDECREF(self->values);
     Py_XDECREF(self->prepared);
     Py_XDECREF(self->for_all);
     free_pieces(&self->pieces);
-    Py_TYPE(of)->tp_free(of);
+    PyObject_GC_Del(of);
+    Py_DECREF(type);
 }
 
 #define CALL(NAME) {#NAME, (PyCFunction)(void (*)(void))search_##NAME, METH_FASTCALL | METH_KEYWORDS, NAME##_doc}
@@ -709,17 +721,21 @@ static PyMemberDef search_members[] = {
     {0},
 };
 
-static PyTypeObject search_type = {
-    PyVarObject_HEAD_INIT(NULL, 0)
-    .tp_name = "literal_search._native.Prepared",
-    .tp_doc = "What a Search finds.",
-    .tp_basicsize = sizeof(Prepared),
-    .tp_flags = Py_TPFLAGS_DEFAULT | Py_TPFLAGS_BASETYPE | Py_TPFLAGS_HAVE_GC,
-    .tp_new = PyType_GenericNew,
-    .tp_dealloc = search_dealloc,
-    .tp_traverse = search_traverse,
-    .tp_methods = search_methods,
-    .tp_members = search_members,
+static PyType_Slot search_slots[] = {
+    {Py_tp_doc, (void *)"What a Search finds."},
+    {Py_tp_new, PyType_GenericNew},
+    {Py_tp_dealloc, search_dealloc},
+    {Py_tp_traverse, search_traverse},
+    {Py_tp_methods, search_methods},
+    {Py_tp_members, search_members},
+    {0},
+};
+
+static PyType_Spec search_spec = {
+    .name = "literal_search._native.Prepared",
+    .basicsize = sizeof(Prepared),
+    .flags = Py_TPFLAGS_DEFAULT | Py_TPFLAGS_IMMUTABLETYPE | Py_TPFLAGS_BASETYPE | Py_TPFLAGS_HAVE_GC,
+    .slots = search_slots,
 };
 
 static PyMethodDef module_methods[] = {
@@ -745,14 +761,23 @@ static int has_instructions(void) {
 #endif
 }
 
+/* Makes the types of the iterator and of the searcher. */
+static int types_ready(PyObject *made) {
+    PyObject *type = PyType_FromSpec(&search_spec);
+    int status = type ? PyModule_AddType(made, (PyTypeObject *)type) : -1;
+    Py_XDECREF(type);
+    matches_type = (PyTypeObject *)PyType_FromSpec(&matches_spec);
+    return matches_type ? status : -1;
+}
+
 PyMODINIT_FUNC PyInit__native(void) {
     if (!has_instructions()) {
         PyErr_SetString(PyExc_ImportError, "CPU ISA level is lower than required");
         return NULL;
     }
     PyObject *made = PyModule_Create(&module);
-    if (!made || match_ready() || columns_ready() || PyType_Ready(&matches_type) || PyModule_AddType(made, &match_type) ||
-        PyModule_AddType(made, &search_type) || PyModule_AddStringConstant(made, "__version__", LITERAL_VERSION)) {
+    if (!made || match_ready() || columns_ready() || PyModule_AddType(made, match_type) || types_ready(made) ||
+        PyModule_AddStringConstant(made, "__version__", LITERAL_VERSION)) {
         Py_XDECREF(made);
         return NULL;
     }

@@ -2,8 +2,7 @@
 #ifndef LITERAL_SEARCH_PREPARED_H
 #define LITERAL_SEARCH_PREPARED_H
 
-#define PY_SSIZE_T_CLEAN
-#include <Python.h>
+#include "_python.h"
 
 #include "_text.h"
 #include "literal_search.h"

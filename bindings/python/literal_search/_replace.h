@@ -2,8 +2,7 @@
 #ifndef LITERAL_SEARCH_REPLACE_H
 #define LITERAL_SEARCH_REPLACE_H
 
-#define PY_SSIZE_T_CLEAN
-#include <Python.h>
+#include "_python.h"
 
 #include "_text.h"
 #include "_walk.h"
@@ -24,7 +23,7 @@ static void out_begin(Out *out, const Text *text) {
     out->likely = text->len + text->len / 16;
     out->of = NULL;
     out->is_str = text->is_str;
-    out->is_ascii = text->is_str && PyUnicode_IS_COMPACT_ASCII(text->of);
+    out->is_ascii = WRITES_STR && text->is_str && !text->is_wide;
 }
 
 static void out_end(Out *out) {
@@ -39,12 +38,12 @@ static int out_resize(Out *out, size_t room) {
     }
     Py_ssize_t size = (Py_ssize_t)room;
     if (!out->of)
-        out->of = out->is_ascii ? PyUnicode_New(size, 127) : PyBytes_FromStringAndSize(NULL, size);
+        out->of = out->is_ascii ? new_ascii(size) : PyBytes_FromStringAndSize(NULL, size);
     else if (out->is_ascii ? PyUnicode_Resize(&out->of, size) : _PyBytes_Resize(&out->of, size))
         return -1;
     if (!out->of)
         return -1;
-    uint8_t *bytes = out->is_ascii ? PyUnicode_1BYTE_DATA(out->of) : (uint8_t *)PyBytes_AS_STRING(out->of);
+    uint8_t *bytes = out->is_ascii ? ascii_of(out->of) : (uint8_t *)PyBytes_AS_STRING(out->of);
     if (out->bytes == out->first)
         memcpy(bytes, out->first, out->len);
     out->bytes = bytes;
@@ -66,7 +65,7 @@ static int out_leave_ascii(Out *out) {
         return 0;
     out->of = PyBytes_FromStringAndSize(NULL, (Py_ssize_t)out->room);
     if (out->of)
-        out->bytes = memcpy(PyBytes_AS_STRING(out->of), PyUnicode_1BYTE_DATA(ascii), out->len);
+        out->bytes = memcpy(PyBytes_AS_STRING(out->of), ascii_of(ascii), out->len);
     Py_DECREF(ascii);
     return out->of ? 0 : -1;
 }
@@ -88,7 +87,7 @@ static int out_add_str(Out *out, PyObject *str) {
     PyObject *encoded = NULL;
     const char *bytes = utf8_of(str, &len, &encoded);
     int status = -1;
-    if (bytes && !(out->is_ascii && !PyUnicode_IS_ASCII(str) && out_leave_ascii(out)))
+    if (bytes && !(out->is_ascii && len != PyUnicode_GET_LENGTH(str) && out_leave_ascii(out)))
         status = out_add(out, bytes, (size_t)len);
     Py_XDECREF(encoded);
     return status;
@@ -123,8 +122,7 @@ static PyObject *plain_bytes(PyObject *of, const char *name) {
         if (bytes || PyErr_Occurred())
             return bytes;
     }
-    PyErr_Format(PyExc_TypeError, "%s is a str or lends plain bytes, and %.200s does neither", name,
-                 Py_TYPE(of)->tp_name);
+    refuse_type(of, "%s is a str or lends plain bytes, and %.200U does neither", name);
     return NULL;
 }
 
@@ -132,8 +130,7 @@ static PyObject *plain_bytes(PyObject *of, const char *name) {
 static PyObject *of_type(PyObject *replacement, bool is_str) {
     if (PyUnicode_Check(replacement) == is_str)
         return is_str ? Py_NewRef(replacement) : plain_bytes(replacement, "a replacement");
-    PyErr_Format(PyExc_TypeError, "a replacement is %s as the text is, not %.200s", is_str ? "str" : "bytes",
-                 Py_TYPE(replacement)->tp_name);
+    refuse_type(replacement, "a replacement is %s as the text is, not %.200U", is_str ? "str" : "bytes");
     return NULL;
 }
 
@@ -185,7 +182,7 @@ static int same_for_all(Same *same, PyObject *by, Out *out) {
         return 0;
     if (PyUnicode_Check(by)) {
         same->bytes = utf8_of(by, &same->len, &same->encoded);
-        out->is_ascii = out->is_ascii && same->bytes && PyUnicode_IS_ASCII(by);
+        out->is_ascii = out->is_ascii && same->bytes && same->len == PyUnicode_GET_LENGTH(by);
         return same->bytes ? 0 : -1;
     }
     same->bytes = PyBytes_AS_STRING(by);

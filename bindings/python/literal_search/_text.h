@@ -2,12 +2,7 @@
 #ifndef LITERAL_SEARCH_TEXT_H
 #define LITERAL_SEARCH_TEXT_H
 
-#define PY_SSIZE_T_CLEAN
-#include <Python.h>
-
-#include <stdbool.h>
-#include <stdint.h>
-#include <string.h>
+#include "_python.h"
 
 #include "literal_search.h"
 
@@ -52,8 +47,7 @@ static bool has_objects(const char *format) {
 
 static int hold_buffer(Text *text, PyObject *of) {
     if (!PyObject_CheckBuffer(of)) {
-        PyErr_Format(PyExc_TypeError, "a text is a str or lends its bytes, and %.200s does neither",
-                     Py_TYPE(of)->tp_name);
+        refuse_type(of, "%s is a str or lends its bytes, and %.200U does neither", "a text");
         return -1;
     }
     if (PyObject_GetBuffer(of, &text->buffer, PyBUF_FULL_RO))
@@ -112,8 +106,8 @@ static int fold_copy(Text *text) {
 
 static int hold_str(Text *text, PyObject *of, bool folds) {
     Py_ssize_t len;
-    if (PyUnicode_IS_COMPACT_ASCII(of)) {
-        text->bytes = text->shown = PyUnicode_1BYTE_DATA(of);
+    text->bytes = text->shown = ascii_of(of);
+    if (text->bytes) {
         text->len = (size_t)PyUnicode_GET_LENGTH(of);
         text->of = Py_NewRef(of);
         return 0;
@@ -143,8 +137,7 @@ static int hold(Text *text, Takes takes, PyObject *of) {
     else if (is_str && takes == TAKES_BYTES)
         PyErr_SetString(PyExc_TypeError, "the patterns are bytes, and the text is str: encode it, as by text.encode()");
     else if (!is_str && (takes == TAKES_STR || takes == TAKES_FOLDED) && PyObject_CheckBuffer(of))
-        PyErr_Format(PyExc_TypeError, "the patterns are str, and the text is %.200s: decode it, as by str(text, 'utf-8')",
-                     Py_TYPE(of)->tp_name);
+        refuse_type(of, "the patterns are %s, and the text is %.200U: decode it, as by str(text, 'utf-8')", "str");
     else
         return is_str ? hold_str(text, of, takes == TAKES_FOLDED) : hold_buffer(text, of);
     return -1;
@@ -202,9 +195,18 @@ static size_t byte_of(const Text *text, Place *place, size_t offset) {
     return place->byte;
 }
 
+/* The character beyond ASCII that begins at some bytes of UTF-8. */
+static uint32_t character_at(const uint8_t *bytes) {
+    uint32_t second = (uint32_t)bytes[0] << 6 | (bytes[1] & 63);
+    if (bytes[0] < 0xE0)
+        return second & 0x7FF;
+    uint32_t third = second << 6 | (bytes[2] & 63);
+    return bytes[0] < 0xF0 ? third & 0xFFFF : (third << 6 | (bytes[3] & 63)) & 0x1FFFFF;
+}
+
 /* The byte for each byte of a character: it is one of `\w` exactly if the character is, as `re` takes it. */
-static uint8_t side_of(Py_UCS4 character) {
-    return character < 0x80 ? (uint8_t)character : Py_UNICODE_ISALNUM(character) ? 'a' : ' ';
+static uint8_t side_of(const uint8_t *bytes) {
+    return bytes[0] < 0x80 ? bytes[0] : is_alnum(character_at(bytes)) ? 'a' : ' ';
 }
 
 /* Makes room for the sides of a str with characters beyond ASCII, from the character before a place on: in a search that
@@ -225,15 +227,23 @@ static int begin_sides(Text *text, Place at) {
     return 0;
 }
 
+/* Learns the characters up to byte `last` for make_sides, which cannot call Python, as other threads run meanwhile. */
+static int learn_sides(const Text *text, size_t last) {
+    if (!LEARNS_ALNUM || !text->sides)
+        return 0;
+    for (size_t at = text->made.byte; at <= last && at < text->len; at++)
+        if (text->shown[at] >= 0xC0 && learn_alnum(character_at(text->shown + at)))
+            return -1;
+    return 0;
+}
+
 /* Makes the sides up to the one at byte `last`, if there are any: in a search that ends there none behind it counts. */
 static void make_sides(Text *text, size_t last) {
     if (!text->sides)
         return;
     Place at = text->made;
-    int kind = PyUnicode_KIND(text->of);
-    const void *data = PyUnicode_DATA(text->of);
     for (; at.byte <= last && at.byte < text->len; at.offset++) {
-        uint8_t side = side_of(PyUnicode_READ(kind, data, at.offset));
+        uint8_t side = side_of(text->shown + at.byte);
         do
             text->sides[at.byte++] = side;
         while (at.byte < text->len && (text->bytes[at.byte] & 0xC0) == 0x80);
@@ -252,7 +262,7 @@ static int slice_offset(PyObject *given, Py_ssize_t otherwise, Py_ssize_t *offse
     if (!given || given == Py_None)
         return 0;
     if (!PyIndex_Check(given)) {
-        PyErr_Format(PyExc_TypeError, "an offset is an int or None, not %.200s", Py_TYPE(given)->tp_name);
+        refuse_type(given, "%s is an int or None, not %.200U", "an offset");
         return -1;
     }
     *offset = PyNumber_AsSsize_t(given, NULL);
@@ -263,12 +273,8 @@ static int slice_offset(PyObject *given, Py_ssize_t otherwise, Py_ssize_t *offse
 static inline int add_item(PyObject *list, PyObject *item) {
     if (!item)
         return -1;
-    Py_ssize_t len = PyList_GET_SIZE(list);
-    if (len < ((PyListObject *)list)->allocated) {
-        PyList_SET_ITEM(list, len, item);
-        Py_SET_SIZE(list, len + 1);
+    if (add_in_place(list, item))
         return 0;
-    }
     int status = PyList_Append(list, item);
     Py_DECREF(item);
     return status;

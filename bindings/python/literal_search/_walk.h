@@ -3,8 +3,7 @@
 #ifndef LITERAL_SEARCH_WALK_H
 #define LITERAL_SEARCH_WALK_H
 
-#define PY_SSIZE_T_CLEAN
-#include <Python.h>
+#include "_python.h"
 
 #include <time.h>
 
@@ -167,6 +166,8 @@ static int find_first_word(const Prepared *search, Text *text, size_t at, size_t
         len = SHORT > least_len(search) ? SHORT : least_len(search);
     while (at < end) {
         size_t cut = cut_piece(search, len, at, end, &piece_end);
+        if (learn_sides(text, piece_end))
+            return -1;
         PyThreadState *state = let_others_run(piece_end - at);
         int64_t began = begin_piece(search, cut == end);
         make_sides(text, piece_end);
@@ -307,6 +308,8 @@ static int words_of_piece(Walk *walk) {
     const uint32_t *words = words_of(walk->search->prepared, &words_len);
     Text *text = &walk->text;
     literal_page page;
+    if (learn_sides(text, piece_end))
+        return -1;
     PyThreadState *state = let_others_run(piece_end - walk->at);
     int64_t began = begin_piece(walk->search, cut == walk->end);
     make_sides(text, piece_end);
@@ -356,6 +359,8 @@ static int count_matches(Walk *walk, size_t *count) {
     const uint32_t *words = words_of(walk->search->prepared, &words_len);
     Text *text = &walk->text;
     int32_t status;
+    if (learn_sides(text, end))
+        return -1;
     PyThreadState *state = let_others_run(end - walk->at);
     make_sides(text, end);
     if (walk->search->whole_words)

@@ -16,7 +16,11 @@ from shared import tearDownModule
 
 TOP = Path(__file__).resolve().parents[3]
 PACKAGE, BUILT = TOP / "bindings/python", Path(_native.__file__)
-HAS_WHEEL = any(map(importlib.util.find_spec, ("wheel", "setuptools.command.bdist_wheel")))
+# Where the sources are: beside the extension, unless that is of a wheel.
+SOURCES = BUILT.parent if (BUILT.parent / "_native.c").is_file() else PACKAGE / "literal_search"
+HAS_SETUPTOOLS = importlib.util.find_spec("setuptools") is not None
+HAS_WHEEL = HAS_SETUPTOOLS and any(map(importlib.util.find_spec, ("wheel", "setuptools.command.bdist_wheel")))
+HAS_HEADERS = Path(sysconfig.get_paths()["include"], "Python.h").is_file()
 
 # Runs setup.py of the folder after some statements.
 SETUP = "import platform, runpy, sys, sysconfig; {}; sys.argv = ['setup.py', *sys.argv[1:]]; runpy.run_path('setup.py')"
@@ -47,6 +51,7 @@ class Setup(unittest.TestCase):
         self.addCleanup(room.cleanup)
         self.room = Path(room.name)
 
+    @unittest.skipUnless(HAS_SETUPTOOLS, "there is no setuptools")
     def test_other_machines(self):
         others = {
             "linux-riscv64 with glibc 2.36": "sysconfig.get_platform = lambda: 'linux-riscv64'",
@@ -91,6 +96,7 @@ class Tests(unittest.TestCase):
             self.assertIn("\nfrom shared import tearDownModule\n", file.read_text("utf-8"), file.name)
 
 
+@unittest.skipUnless(HAS_HEADERS, "Python's headers are not there")
 class OlderProcessor(unittest.TestCase):
     """The package on a processor that is too old, where the loader refuses the extension, and where it does not look."""
 
@@ -98,7 +104,7 @@ class OlderProcessor(unittest.TestCase):
         """Compiles an extension in the place of the package's, and imports that."""
         with tempfile.TemporaryDirectory() as room:
             copy = Path(room, "literal_search")
-            shutil.copytree(BUILT.parent, copy, ignore=shutil.ignore_patterns("*.so", "__pycache__"))
+            shutil.copytree(SOURCES, copy, ignore=shutil.ignore_patterns("*.so", "__pycache__"))
             compiler = ["cc", "-w", "-fPIC", "-shared", f"-I{sysconfig.get_paths()['include']}", f"-I{TOP}/bindings/c"]
             self.assertEqual(run(*compiler, *words, "-o", copy / BUILT.name, cwd=copy), (0, ""))
             uses = "try: import literal_search\nexcept ImportError as why: print(why)"
