@@ -146,7 +146,7 @@ static PyObject *prepared_for(const Prepared *self, const Pieces *pieces, bool f
         status = prepare(self, pieces, for_all, PyBytes_AS_STRING(prepared), room, &needed);
     } while (status == LITERAL_TOO_SHORT);
     if (status == LITERAL_OK) {
-        _PyBytes_Resize(&prepared, (Py_ssize_t)(needed * sizeof(uint32_t)));
+        resize_bytes(&prepared, (Py_ssize_t)(needed * sizeof(uint32_t)));
     } else {
         Py_CLEAR(prepared);
         refuse(status);

@@ -45,8 +45,8 @@ static int find_items(PyObject *tuple) {
 /* Whether is_alnum knows only the characters given to learn_alnum, and whether new_ascii makes a str. */
 enum { LEARNS_ALNUM = true, WRITES_STR = false };
 
-/* Changes the length of bytes that nobody else has. */
-static inline int _PyBytes_Resize(PyObject **bytes, Py_ssize_t size) {
+/* Changes the length of bytes that nobody else has. On an error they are gone. */
+static int resize_bytes(PyObject **bytes, Py_ssize_t size) {
     PyObject *before = *bytes;
     Py_ssize_t kept = PyBytes_GET_SIZE(before) < size ? PyBytes_GET_SIZE(before) : size;
     *bytes = PyBytes_FromStringAndSize(NULL, size);
@@ -103,6 +103,10 @@ enum { items_at = offsetof(PyTupleObject, ob_item), LEARNS_ALNUM = false, WRITES
 static inline int find_items(PyObject *tuple) {
     (void)tuple;
     return 0;
+}
+
+static inline int resize_bytes(PyObject **bytes, Py_ssize_t size) {
+    return _PyBytes_Resize(bytes, size);
 }
 
 static inline bool add_in_place(PyObject *list, PyObject *item) {

@@ -39,7 +39,7 @@ static int out_resize(Out *out, size_t room) {
     Py_ssize_t size = (Py_ssize_t)room;
     if (!out->of)
         out->of = out->is_ascii ? new_ascii(size) : PyBytes_FromStringAndSize(NULL, size);
-    else if (out->is_ascii ? PyUnicode_Resize(&out->of, size) : _PyBytes_Resize(&out->of, size))
+    else if (out->is_ascii ? PyUnicode_Resize(&out->of, size) : resize_bytes(&out->of, size))
         return -1;
     if (!out->of)
         return -1;

@@ -80,6 +80,13 @@ class EachRequest(unittest.TestCase):
                 for call in calls_of(searcher, text, text[:1]):
                     self.check(lambda: call(text), [searcher, text])
 
+    def test_characters_that_are_new(self):
+        """In each text stands a letter that stood in none before."""
+        searcher = Search(["a"], whole_words=True)
+        for request in range(REQUESTS):
+            text = "a" + chr(0xAC00 + request)
+            self.assertIn(refused(lambda: searcher.findall(text), request), ([], None))
+
     def test_patterns(self):
         for words in (["a", "bc"], ["é", Name("ab")], [b"a", memoryview(b"bc")], ["x" * 700]):
             held = [it for it in words if len(it) > 1]  # (Python shares the others)
