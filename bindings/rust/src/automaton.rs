@@ -107,7 +107,7 @@ pub trait Automaton: Sealed {
     /// Whether a pattern ends with the bytes that led to the state.
     #[inline]
     fn is_match(&self, state: StateID) -> bool {
-        state.0 >= MATCH_STATE
+        state.0 >= MATCH_STATE || self.searcher().has_empty()
     }
 
     /// Whether it is the state before the first byte. A search comes back there while no pattern has begun.
@@ -118,21 +118,25 @@ pub trait Automaton: Sealed {
 
     /// How many patterns end with the bytes that led to the state.
     fn match_len(&self, state: StateID) -> usize {
-        done(self.searcher().every()).prepared.patterns_at(state.0, &mut [])
+        let every = done(self.searcher().every());
+        every.prepared.patterns_at(state.0, &mut []) + every.empty_numbers().len()
     }
 
     /// The pattern with an index among those that end with the bytes that led to the state: the longest first, and of
-    /// equal ones the first in the list. Each call sorts them all.
+    /// equal ones the first in the list. Each call sorts those that are not empty.
     ///
     /// # Panics
     ///
     /// If the index is not below [`Automaton::match_len`].
     fn match_pattern(&self, state: StateID, index: usize) -> PatternID {
-        let (searcher, prepared) = (self.searcher(), done(self.searcher().every()).prepared);
-        let mut numbers = vec![0; prepared.patterns_at(state.0, &mut [])];
-        prepared.patterns_at(state.0, &mut numbers);
-        numbers.sort_by_key(|it| core::cmp::Reverse(searcher.pattern_len(PatternID::of(*it))));
-        PatternID::of(numbers[index])
+        let every = done(self.searcher().every());
+        let mut numbers = vec![0; every.prepared.patterns_at(state.0, &mut [])];
+        every.prepared.patterns_at(state.0, &mut numbers);
+        numbers.sort_by_key(|it| core::cmp::Reverse(every.pieces.len_of(*it as u32)));
+        match numbers.get(index) {
+            Some(number) => every.pattern(*number),
+            None => PatternID::of(every.empty_numbers()[index - numbers.len()] as usize),
+        }
     }
 
     /// [`AhoCorasick::try_find`].

@@ -1,16 +1,11 @@
 //! The builder of searchers.
+use crate::empty::Empty;
 use crate::lazy::Lazy;
 use crate::leftmost::Leftmost;
 use crate::pieces::Pieces;
 use crate::searcher::Parts;
+use crate::trie::Trie;
 use crate::{AhoCorasick, AhoCorasickKind, BuildError, MatchKind, StartKind};
-
-/// With a pattern of more bytes than this, it may take longer to search for each earliest match anew than to pick them
-/// from every occurrence.
-const LONG: usize = 1024;
-
-/// It takes about as long to list an occurrence as to look up so many bytes.
-const OCCURRENCE: usize = 4;
 
 /// Builds searchers.
 ///
@@ -78,42 +73,37 @@ impl AhoCorasickBuilder {
         self
     }
 
-    /// A searcher for some patterns, which are numbered from 0. Without patterns it finds nothing.
+    /// A searcher for some patterns, which are numbered from 0. Without patterns it finds nothing. An empty pattern
+    /// matches at each offset, also at the end.
     ///
     /// # Errors
     ///
-    /// If a pattern is empty, there are more than [`PatternID::LIMIT`](crate::PatternID::LIMIT), memory is refused, the
-    /// table of the search would have 2^31 entries or more, or the processor lacks the instructions that the library
-    /// needs. (If the last request, of some hundred bytes, is refused, the program ends, as with Rust's collections.)
-    ///
-    /// ```
-    /// let error = aho_corasick::AhoCorasick::new(["a", ""]).unwrap_err();
-    /// assert_eq!(error.to_string(), "pattern 1 is empty");
-    /// ```
+    /// If there are more than [`PatternID::LIMIT`](crate::PatternID::LIMIT), memory is refused, the table of the search
+    /// would have 2^31 entries or more, or the processor lacks the instructions that the library needs. (If the last
+    /// request, of less than two kilobytes, is refused, the program ends, as with Rust's collections.)
     pub fn build<I, P>(&self, patterns: I) -> Result<AhoCorasick, BuildError>
     where
         I: IntoIterator<Item = P>,
         P: AsRef<[u8]>,
     {
-        let mut pieces = Pieces::new(patterns)?;
-        let leftmost = Leftmost::new(self.kind, self.ignore_case, &pieces)?;
-        let (is_standard, longest) = (self.kind == MatchKind::Standard, pieces.longest);
-        // (not if so many patterns can end at one offset that it takes longer to list them)
-        let picks_earliest =
-            !is_standard && longest > LONG && OCCURRENCE * pieces.most_at_one_end(self.ignore_case)? <= longest;
-        if !is_standard && !picks_earliest {
-            pieces.drop_bytes();
-        }
+        let AhoCorasickBuilder { kind, ignore_case, start_kind, automaton } = *self;
+        let pieces = Pieces::new(patterns)?;
+        let empty = Empty::of(&pieces)?;
+        let needs_trie = start_kind != StartKind::Unanchored || empty.is_some();
+        let trie = if needs_trie { Some(Trie::new(kind, ignore_case, &pieces)?) } else { None };
+        // (with an empty pattern the trie makes all of its searches)
+        let none = Pieces::default();
+        let leftmost = Leftmost::new(kind, ignore_case, if empty.is_some() { &none } else { &pieces })?;
         Ok(AhoCorasick::of(Parts {
-            kind: self.kind,
-            start_kind: self.start_kind,
-            automaton: self.automaton.unwrap_or(AhoCorasickKind::DFA),
-            ignore_case: self.ignore_case,
-            patterns_len: pieces.len(),
-            shortest: pieces.shortest,
-            longest,
+            kind,
+            start_kind,
+            automaton: automaton.unwrap_or(AhoCorasickKind::DFA),
+            ignore_case,
+            has_plain: start_kind != StartKind::Anchored && empty.is_none(),
             leftmost,
-            picks_earliest,
+            earliest: Lazy::new(),
+            trie,
+            empty,
             pieces,
             every: Lazy::new(),
         }))

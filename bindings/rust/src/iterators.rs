@@ -1,9 +1,9 @@
 //! Matches that do not overlap, one after another.
-use crate::adjacent::Adjacent;
+use crate::anchored::AnchoredMatches;
 use crate::leftmost::Leftmost;
 use crate::library::FEW;
-use crate::{AhoCorasick, FindOverlappingIter, Input, Match, Span};
-use alloc::boxed::Box;
+use crate::trie::Trie;
+use crate::{AhoCorasick, Input, Match, Span};
 use alloc::vec::Vec;
 use core::fmt;
 use core::iter::FusedIterator;
@@ -22,12 +22,7 @@ pub struct FindIter<'a, 'h>(Way<'a, 'h>);
 #[derive(Clone, Debug)]
 enum Way<'a, 'h> {
     Pages(Pages<'a, 'h>),
-    /// Of an input that is anchored, by a leftmost kind.
-    Adjacent(Box<Adjacent<'a, 'h>>),
-    /// Of an input that is anchored by another kind, or asks for earliest matches.
-    OneByOne(&'a AhoCorasick, Input<'h>),
-    /// Of every occurrence, each that begins after the match before, which ends there.
-    Picked(Box<FindOverlappingIter<'a, 'h>>, usize),
+    Anchored(AnchoredMatches<'a, 'h>),
 }
 
 impl<'a, 'h> FindIter<'a, 'h> {
@@ -36,16 +31,9 @@ impl<'a, 'h> FindIter<'a, 'h> {
         FindIter(Way::Pages(Pages::new(search, haystack, span)))
     }
 
-    pub(crate) fn picked(all: FindOverlappingIter<'a, 'h>) -> FindIter<'a, 'h> {
-        FindIter(Way::Picked(Box::new(all), 0))
-    }
-
-    pub(crate) fn adjacent(searcher: &'a AhoCorasick, input: &Input<'h>) -> FindIter<'a, 'h> {
-        FindIter(Way::Adjacent(Box::new(Adjacent::new(searcher, input))))
-    }
-
-    pub(crate) fn one_by_one(searcher: &'a AhoCorasick, input: Input<'h>) -> FindIter<'a, 'h> {
-        FindIter(Way::OneByOne(searcher, input))
+    #[inline]
+    pub(crate) fn anchored(searcher: &'a AhoCorasick, trie: &'a Trie, input: Input<'h>) -> FindIter<'a, 'h> {
+        FindIter(Way::Anchored(AnchoredMatches::new(searcher, trie, input)))
     }
 }
 
@@ -56,17 +44,7 @@ impl Iterator for FindIter<'_, '_> {
     fn next(&mut self) -> Option<Match> {
         match &mut self.0 {
             Way::Pages(pages) => pages.next(),
-            Way::Adjacent(adjacent) => adjacent.next(),
-            Way::OneByOne(searcher, input) => {
-                let found = searcher.search_by_flags(input)?;
-                input.set_start(found.end());
-                Some(found)
-            }
-            Way::Picked(all, at) => {
-                let found = all.find(|it| *at <= it.start())?;
-                *at = found.end();
-                Some(found)
-            }
+            Way::Anchored(anchored) => anchored.next(),
         }
     }
 }

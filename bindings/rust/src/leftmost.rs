@@ -1,8 +1,9 @@
-//! A search for leftmost matches, by the array of some of the patterns.
+//! A search for leftmost matches, by the array of those patterns that can match.
 use crate::declared::{LEFTMOST_FIRST, LEFTMOST_LONGEST};
 use crate::error::BuildError;
 use crate::library::{Prepared, Reached};
-use crate::pieces::Pieces;
+use crate::pieces::{copied, Pieces};
+use crate::sorted::{keep_matching, sorted};
 use crate::standard::likely_late;
 use crate::{Match, MatchKind, PatternID, Span};
 use alloc::vec::Vec;
@@ -13,6 +14,12 @@ const MOST: usize = 1024;
 /// For how many bytes of a long pattern a page has a match. Each page looks up at least twice the length of that pattern.
 /// A full page is at least a quarter as long as the pattern, so these are at most eight look-ups for each of its bytes.
 const BYTES_EACH: usize = 4;
+
+/// With a longer pattern, parts are searched to know whether there is a match: the first part has so many bytes, and each
+/// other one goes so many times as far.
+const LONG: usize = 256;
+const FIRST_PART: usize = 64;
+const PART_GROWTH: usize = 8;
 
 pub struct Leftmost {
     prepared: Prepared,
@@ -25,39 +32,55 @@ pub struct Leftmost {
 impl Leftmost {
     /// The search for the matches of a kind that do not overlap.
     pub fn new(kind: MatchKind, ignore_case: bool, pieces: &Pieces) -> Result<Leftmost, BuildError> {
-        let kind = match kind {
+        let number = match kind {
             MatchKind::Standard => return Leftmost::standard(ignore_case, pieces),
             MatchKind::LeftmostFirst => LEFTMOST_FIRST,
             MatchKind::LeftmostLongest => LEFTMOST_LONGEST,
         };
-        let prepared = Prepared::leftmost(kind, ignore_case, pieces)?;
-        Ok(Leftmost { prepared, numbers: Vec::new(), longest: pieces.longest })
+        let mut numbers = pieces.folded(ignore_case, |pieces| {
+            let mut numbers = sorted(pieces)?;
+            keep_matching(kind, pieces, &mut numbers)?;
+            Ok(numbers)
+        })?;
+        numbers.sort_unstable();
+        Leftmost::of(number, ignore_case, pieces, numbers)
     }
 
     /// The search for the leftmost matches of the late patterns, which are the standard ones. The array tells whether
-    /// the likely ones are late: if a pattern is found in one before its last byte, that one is not.
+    /// the likely ones are late.
     fn standard(ignore_case: bool, pieces: &Pieces) -> Result<Leftmost, BuildError> {
-        let mut numbers = if ignore_case { likely_late(&pieces.in_lower_case()?)? } else { likely_late(pieces)? };
-        let prepared = Leftmost::of(ignore_case, pieces, &numbers)?;
-        let likely = numbers.len();
-        numbers.retain(|it| {
-            let pattern = pieces.get(*it);
-            prepared.find(pattern, Span { start: 0, end: pattern.len() - 1 }).is_none()
-        });
-        let prepared = if numbers.len() == likely { prepared } else { Leftmost::of(ignore_case, pieces, &numbers)? };
-        let longest = numbers.iter().map(|it| pieces.get(*it).len()).max().unwrap_or(0);
-        if numbers.len() == pieces.len() {
-            numbers = Vec::new();
+        let mut numbers = pieces.folded(ignore_case, likely_late)?;
+        let (likely, count) = (Leftmost::of(LEFTMOST_FIRST, ignore_case, pieces, copied(&numbers)?)?, numbers.len());
+        numbers.retain(|it| likely.is_late(pieces.get(*it)));
+        if numbers.len() == count {
+            return Ok(likely);
         }
-        Ok(Leftmost { prepared, numbers, longest })
+        Leftmost::of(LEFTMOST_FIRST, ignore_case, pieces, numbers)
     }
 
-    fn of(ignore_case: bool, pieces: &Pieces, numbers: &[u32]) -> Result<Prepared, BuildError> {
-        if numbers.len() == pieces.len() {
-            Prepared::leftmost(LEFTMOST_FIRST, ignore_case, pieces)
-        } else {
-            Prepared::leftmost(LEFTMOST_FIRST, ignore_case, &pieces.of(numbers)?)
+    /// The search for standard matches, where this one is for those of a leftmost kind; or none, if these are the same.
+    pub fn earliest(&self, ignore_case: bool, pieces: &Pieces) -> Result<Option<Leftmost>, BuildError> {
+        let (likely, count) = (pieces.folded(ignore_case, likely_late)?, self.numbers.len());
+        let is_same = likely.len() == if count > 0 { count } else { pieces.len() };
+        if is_same && likely.iter().all(|it| self.is_late(pieces.get(*it))) {
+            return Ok(None);
         }
+        Leftmost::standard(ignore_case, pieces).map(Some)
+    }
+
+    /// The search for some of the patterns.
+    fn of(kind: u32, ignore_case: bool, pieces: &Pieces, numbers: Vec<u32>) -> Result<Leftmost, BuildError> {
+        if numbers.len() == pieces.len() {
+            let prepared = Prepared::leftmost(kind, ignore_case, pieces)?;
+            return Ok(Leftmost { prepared, numbers: Vec::new(), longest: pieces.longest });
+        }
+        let some = pieces.of(&numbers)?;
+        Ok(Leftmost { prepared: Prepared::leftmost(kind, ignore_case, &some)?, numbers, longest: some.longest })
+    }
+
+    /// Whether no pattern of the array is found in one before its last byte.
+    fn is_late(&self, pattern: &[u8]) -> bool {
+        self.prepared.find(pattern, Span { start: 0, end: pattern.len() - 1 }).is_none()
     }
 
     /// How many matches a page should have, where there are many.
@@ -69,6 +92,25 @@ impl Leftmost {
     pub fn find(&self, haystack: &[u8], span: Span) -> Option<Match> {
         let found = self.prepared.find(haystack, span)?;
         Some(self.named(found))
+    }
+
+    /// Whether there is a match in a span. With a long pattern it searches parts, each much longer than the one before:
+    /// if a match ends in one, no bytes after it are read to know whether a longer one begins there or before.
+    #[inline]
+    pub fn is_match(&self, haystack: &[u8], span: Span) -> bool {
+        let mut part = span;
+        if self.longest > LONG {
+            let mut len = FIRST_PART;
+            while len < span.len() {
+                part.end = span.start + len;
+                if self.prepared.find(haystack, part).is_some() {
+                    return true;
+                }
+                part.start = span.start.max((part.end + 1).saturating_sub(self.longest));
+                len = len.saturating_mul(PART_GROWTH);
+            }
+        }
+        self.prepared.find(haystack, Span { end: span.end, ..part }).is_some()
     }
 
     /// Lists the first matches in a span, at most so many, in place of what was in the list. If memory for a large page is

@@ -1,16 +1,17 @@
 //! Every occurrence, one after another.
 use crate::declared::{MATCH_STATE, START_STATE};
+use crate::empty::{Empty, EmptyOccurrences};
 use crate::leftmost::Leftmost;
 use crate::library::{Prepared, Reached, FEW};
 use crate::pieces::Pieces;
+use crate::trie::{Beginning, Trie};
 use crate::{Input, Match, PatternID, Span};
 use alloc::vec::Vec;
 use core::fmt;
 use core::iter::FusedIterator;
 
-/// The length of the parts that are searched, first and later; and first in an anchored input, which has few matches.
+/// The length of the parts that are searched, first and later.
 const FIRST_PART: usize = 256;
-const FIRST_ANCHORED_PART: usize = 16;
 const PART: usize = 1 << 16;
 
 /// How many occurrences a page has at most, after the first one, unless more lie within twice the longest pattern.
@@ -23,14 +24,28 @@ const MOST: usize = 4096;
 /// The least gap between occurrences, in bytes, after which the search by states ends.
 const GAP: usize = 4096;
 
-/// Where every occurrence is searched for: an array for that, the patterns, and the length of the longest one.
+/// Where every occurrence is searched for: an array for that, its patterns, and the length of the longest one.
 #[derive(Clone, Copy)]
 pub struct Every<'a> {
     pub prepared: &'a Prepared,
     pub pieces: &'a Pieces,
     pub longest: usize,
+    /// The empty patterns, which the array lacks.
+    pub empty: Option<&'a Empty>,
     /// What finds the occurrence that ends first, if that is faster.
     pub first: Option<&'a Leftmost>,
+}
+
+impl Every<'_> {
+    /// The numbers of the empty patterns.
+    pub fn empty_numbers(&self) -> &[u32] {
+        self.empty.map_or(&[], |it| &it.numbers)
+    }
+
+    /// The pattern with a number in the array.
+    pub fn pattern(&self, number: usize) -> PatternID {
+        self.empty.map_or(PatternID::of(number), |it| it.pattern(number))
+    }
 }
 
 /// Every occurrence, of [`AhoCorasick::find_overlapping_iter`](crate::AhoCorasick::find_overlapping_iter).
@@ -38,13 +53,13 @@ pub struct Every<'a> {
 pub struct FindOverlappingIter<'a, 'h> {
     every: Every<'a>,
     haystack: &'h [u8],
-    walk: Walk,
+    occurrences: Occurrences,
 }
 
 impl<'a, 'h> FindOverlappingIter<'a, 'h> {
     #[inline]
     pub(crate) fn new(every: Every<'a>, input: &Input<'h>) -> Self {
-        FindOverlappingIter { every, haystack: input.haystack(), walk: Walk::new(every, input) }
+        FindOverlappingIter { every, haystack: input.haystack(), occurrences: Occurrences::new(input) }
     }
 }
 
@@ -53,7 +68,7 @@ impl Iterator for FindOverlappingIter<'_, '_> {
 
     #[inline]
     fn next(&mut self) -> Option<Match> {
-        self.walk.next(self.every, self.haystack)
+        self.occurrences.next(self.every, self.haystack)
     }
 }
 
@@ -61,7 +76,7 @@ impl FusedIterator for FindOverlappingIter<'_, '_> {}
 
 impl fmt::Debug for FindOverlappingIter<'_, '_> {
     fn fmt(&self, f: &mut fmt::Formatter<'_>) -> fmt::Result {
-        f.debug_struct("FindOverlappingIter").field("walk", &self.walk).finish_non_exhaustive()
+        f.debug_struct("FindOverlappingIter").field("occurrences", &self.occurrences).finish_non_exhaustive()
     }
 }
 
@@ -69,8 +84,15 @@ impl fmt::Debug for FindOverlappingIter<'_, '_> {
 /// [`AhoCorasick::find_overlapping`](crate::AhoCorasick::find_overlapping).
 #[derive(Clone, Debug, Default)]
 pub struct OverlappingState {
-    walk: Option<Walk>,
+    way: Option<Way>,
     found: Option<Match>,
+}
+
+#[derive(Clone, Debug)]
+enum Way {
+    Every(Occurrences),
+    /// In an anchored input.
+    Beginning(Beginning),
 }
 
 impl OverlappingState {
@@ -86,12 +108,46 @@ impl OverlappingState {
 
     /// Finds the next occurrence.
     pub(crate) fn step(&mut self, every: Every<'_>, input: &Input<'_>) {
-        let walk = self.walk.get_or_insert_with(|| Walk::new(every, input));
-        self.found = walk.next(every, input.haystack());
+        let way = self.way.get_or_insert_with(|| Way::Every(Occurrences::new(input)));
+        self.found = match way {
+            Way::Every(occurrences) => occurrences.next(every, input.haystack()),
+            Way::Beginning(_) => None,
+        };
+    }
+
+    /// Finds the next occurrence at the start of an anchored input.
+    pub(crate) fn step_anchored(&mut self, trie: &Trie, input: &Input<'_>) {
+        let way = self.way.get_or_insert_with(|| Way::Beginning(Beginning::new(trie, input)));
+        self.found = match way {
+            Way::Every(_) => None,
+            Way::Beginning(beginning) => beginning.next(trie, input),
+        };
     }
 }
 
-/// How far a search for every occurrence has come.
+/// How far a search for every occurrence of any pattern has come.
+#[derive(Clone, Debug)]
+struct Occurrences {
+    walk: Walk,
+    empty: EmptyOccurrences,
+}
+
+impl Occurrences {
+    #[inline]
+    fn new(input: &Input<'_>) -> Occurrences {
+        Occurrences { walk: Walk::new(input), empty: EmptyOccurrences::new(input) }
+    }
+
+    #[inline]
+    fn next(&mut self, every: Every<'_>, haystack: &[u8]) -> Option<Match> {
+        match every.empty {
+            None => self.walk.next(every, haystack),
+            Some(empty) => self.empty.next(empty, || self.walk.next(every, haystack)),
+        }
+    }
+}
+
+/// How far a search for every occurrence of the patterns that are not empty has come.
 ///
 /// The haystack is searched in parts. To find the occurrences that end in a part, the search begins the length of the
 /// longest pattern before it, so that occurrences from earlier parts lie whole in the searched bytes. Parts become
@@ -104,8 +160,6 @@ impl OverlappingState {
 #[derive(Clone)]
 struct Walk {
     span: Span,
-    /// Whether only occurrences at the start of the span are given.
-    is_anchored: bool,
     /// Occurrences that end up to here are found: they are in the room, or were given before.
     reached: usize,
     part: usize,
@@ -122,34 +176,25 @@ struct Walk {
 
 impl Walk {
     #[inline]
-    fn new(every: Every<'_>, input: &Input<'_>) -> Walk {
-        let (mut span, is_anchored) = (input.searched(), input.get_anchored().is_anchored());
-        if is_anchored {
-            span.end = span.end.min(span.start.saturating_add(every.longest));
-        }
-        let part = if is_anchored { FIRST_ANCHORED_PART } else { FIRST_PART };
-        let (page, numbers) = (Vec::new(), Vec::new());
-        Walk { span, is_anchored, reached: span.start, part, most: FEW, page, given: 0, state: None, numbers }
+    fn new(input: &Input<'_>) -> Walk {
+        let (span, page, numbers) = (input.searched(), Vec::new(), Vec::new());
+        Walk { span, reached: span.start, part: FIRST_PART, most: FEW, page, given: 0, state: None, numbers }
     }
 
     #[inline]
     fn next(&mut self, every: Every<'_>, haystack: &[u8]) -> Option<Match> {
-        loop {
-            while self.given == self.page.len() {
-                if self.reached == self.span.end {
-                    return None;
-                }
-                match self.state {
-                    Some(state) => self.step(every, haystack, state),
-                    None => self.turn(every, haystack),
-                }
+        while self.given == self.page.len() {
+            if self.reached == self.span.end {
+                return None;
             }
-            let found = self.page[self.given];
-            self.given += 1;
-            if !self.is_anchored || found.start() == self.span.start {
-                return Some(found);
+            match self.state {
+                Some(state) => self.step(every, haystack, state),
+                None => self.turn(every, haystack),
             }
         }
+        let found = self.page[self.given];
+        self.given += 1;
+        Some(found)
     }
 
     /// Finds the occurrences that end in the next part, or in as much of it as a page has room for.

@@ -92,9 +92,9 @@ impl Builder {
         self.patterns.iter().map(Vec::len).min().unwrap_or(0)
     }
 
-    /// A searcher; or none without patterns, or if [`AhoCorasick`] can't be built.
+    /// A searcher; or none without patterns, with an empty one, or if [`AhoCorasick`] can't be built.
     pub fn build(&self) -> Option<Searcher> {
-        if self.is_empty() {
+        if self.minimum_len() == 0 {
             return None;
         }
         let kind = match self.kind {

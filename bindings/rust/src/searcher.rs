@@ -1,4 +1,5 @@
 //! The searcher.
+use crate::empty::Empty;
 use crate::lazy::Lazy;
 use crate::leftmost::Leftmost;
 use crate::library::Prepared;
@@ -6,12 +7,14 @@ use crate::occurrences::{Every, FindOverlappingIter, OverlappingState};
 use crate::pieces::Pieces;
 #[cfg(feature = "std")]
 use crate::stream::Room;
+use crate::trie::Trie;
 use crate::{
     AhoCorasickBuilder, AhoCorasickKind, Anchored, BuildError, FindIter, Input, Match, MatchError, MatchErrorKind,
     MatchKind, PatternID, Span, StartKind,
 };
 use alloc::sync::Arc;
 use core::fmt;
+use core::mem::size_of;
 
 /// For so few patterns the search for the first occurrence is faster than the one for every occurrence.
 const FEW_PATTERNS: usize = 3;
@@ -32,16 +35,44 @@ pub(crate) struct Parts {
     pub start_kind: StartKind,
     pub automaton: AhoCorasickKind,
     pub ignore_case: bool,
-    pub patterns_len: usize,
-    pub shortest: usize,
-    pub longest: usize,
+    /// Whether an input without flags is searched by `leftmost`.
+    pub has_plain: bool,
     pub leftmost: Leftmost,
-    /// Whether iterations over earliest matches by a leftmost kind pick them from every occurrence.
-    pub picks_earliest: bool,
-    /// The patterns, of which `every` is built; or their lengths alone, if it is never built.
+    /// The search for earliest matches where the kind is a leftmost one, if `leftmost` does not find them too.
+    pub earliest: Lazy<Option<Leftmost>>,
+    /// What makes anchored searches, if the `StartKind` has them. If a pattern is empty, it makes all searches for
+    /// matches that do not overlap.
+    pub trie: Option<Trie>,
+    /// The empty patterns, if there are some, and the others.
+    pub empty: Option<Empty>,
+    /// All patterns.
     pub pieces: Pieces,
-    /// The array for every occurrence.
+    /// The array for every occurrence of the patterns that are not empty.
     pub every: Lazy<Prepared>,
+}
+
+/// What makes a search.
+enum Way<'a> {
+    Leftmost(&'a Leftmost),
+    Trie(&'a Trie),
+}
+
+impl<'a> Way<'a> {
+    #[inline]
+    fn find(self, input: &Input<'_>) -> Option<Match> {
+        match self {
+            Way::Leftmost(leftmost) => leftmost.find(input.haystack(), input.searched()),
+            Way::Trie(trie) => trie.find(input),
+        }
+    }
+
+    #[inline]
+    fn find_iter<'h>(self, searcher: &'a AhoCorasick, input: Input<'h>) -> FindIter<'a, 'h> {
+        match self {
+            Way::Leftmost(leftmost) => FindIter::pages(leftmost, input.haystack(), input.searched()),
+            Way::Trie(trie) => FindIter::anchored(searcher, trie, input),
+        }
+    }
 }
 
 impl AhoCorasick {
@@ -94,7 +125,10 @@ impl AhoCorasick {
     pub fn is_match<'h, I: Into<Input<'h>>>(&self, input: I) -> bool {
         let mut input = input.into();
         input.set_earliest(false);
-        self.find(input).is_some()
+        match done(self.way(&input)) {
+            Way::Leftmost(leftmost) => leftmost.is_match(input.haystack(), input.searched()),
+            Way::Trie(trie) => trie.is_match(&input),
+        }
     }
 
     /// The first match, if there is one.
@@ -102,8 +136,8 @@ impl AhoCorasick {
     /// # Panics
     ///
     /// If the input is anchored, and the [`StartKind`] is `Unanchored`, which is the default; or if the input is not
-    /// anchored, and the [`StartKind`] is `Anchored`. By the standard kind an anchored search builds the array for
-    /// every occurrence, if there is none, and panics if it can't.
+    /// anchored, and the [`StartKind`] is `Anchored`. By a leftmost kind, the first search for an earliest match that is
+    /// not anchored may build a second array, and panics if it can't.
     ///
     /// ```
     /// use aho_corasick::{AhoCorasick, Match, MatchKind};
@@ -118,10 +152,7 @@ impl AhoCorasick {
     #[inline]
     pub fn find<'h, I: Into<Input<'h>>>(&self, input: I) -> Option<Match> {
         let input = input.into();
-        if self.is_plain(&input) {
-            return self.parts.leftmost.find(input.haystack(), input.searched());
-        }
-        done(self.try_find_by_flags(&input))
+        done(self.way(&input)).find(&input)
     }
 
     /// Like [`AhoCorasick::find`].
@@ -142,10 +173,7 @@ impl AhoCorasick {
     #[inline]
     pub fn try_find<'h, I: Into<Input<'h>>>(&self, input: I) -> Result<Option<Match>, MatchError> {
         let input = input.into();
-        if self.is_plain(&input) {
-            return Ok(self.parts.leftmost.find(input.haystack(), input.searched()));
-        }
-        self.try_find_by_flags(&input)
+        Ok(self.way(&input)?.find(&input))
     }
 
     /// All matches that do not overlap: first that of [`AhoCorasick::find`], and then the first after each match.
@@ -154,10 +182,8 @@ impl AhoCorasick {
     /// longest pattern if that is more; and none before the third one. If memory for more than 1,024 is refused, it goes
     /// on with 1,024, which may take longer.
     ///
-    /// Earliest matches by a leftmost kind are picked from every occurrence if a pattern has more than 1,024 bytes,
-    /// unless many patterns can end at one offset. The first such iteration builds the array for every occurrence, and
-    /// each allocates the room of [`AhoCorasick::find_overlapping_iter`]. If memory for the array is refused, or no
-    /// pattern is so long, each match is searched for anew.
+    /// If the input is anchored, each match begins where the one before ends. But no empty match begins there: if the search
+    /// finds one, it goes on one byte later.
     ///
     /// # Panics
     ///
@@ -174,10 +200,7 @@ impl AhoCorasick {
     #[inline]
     pub fn find_iter<'a, 'h, I: Into<Input<'h>>>(&'a self, input: I) -> FindIter<'a, 'h> {
         let input = input.into();
-        if self.is_plain(&input) {
-            return self.leftmost_in(input.haystack(), input.searched());
-        }
-        done(self.try_matches_by_flags(input))
+        done(self.way(&input)).find_iter(self, input)
     }
 
     /// Like [`AhoCorasick::find_iter`].
@@ -188,37 +211,13 @@ impl AhoCorasick {
     #[inline]
     pub fn try_find_iter<'a, 'h, I: Into<Input<'h>>>(&'a self, input: I) -> Result<FindIter<'a, 'h>, MatchError> {
         let input = input.into();
-        if self.is_plain(&input) {
-            return Ok(self.leftmost_in(input.haystack(), input.searched()));
-        }
-        self.try_matches_by_flags(input)
-    }
-
-    /// All matches that do not overlap, where these are not those that `leftmost` finds.
-    fn try_matches_by_flags<'a, 'h>(&'a self, input: Input<'h>) -> Result<FindIter<'a, 'h>, MatchError> {
-        self.check(input.get_anchored())?;
-        Ok(match (self.parts.kind, input.get_earliest()) {
-            (MatchKind::Standard, _) => FindIter::one_by_one(self, input),
-            (_, true) => self.earliest_matches(input),
-            (_, false) => FindIter::adjacent(self, &input),
-        })
+        Ok(self.way(&input)?.find_iter(self, input))
     }
 
     /// The matches that `leftmost` finds in a span.
     #[inline]
     pub(crate) fn leftmost_in<'a, 'h>(&'a self, haystack: &'h [u8], span: Span) -> FindIter<'a, 'h> {
         FindIter::pages(&self.parts.leftmost, haystack, span)
-    }
-
-    /// The earliest matches where the kind is a leftmost one. No call lists them, so each would be searched for anew, with
-    /// some times as many look-ups as the longest pattern has bytes. If that takes longer, they are picked from every
-    /// occurrence; anchored ones are searched for by the same array. It may be that this can't be built.
-    fn earliest_matches<'a, 'h>(&'a self, input: Input<'h>) -> FindIter<'a, 'h> {
-        let every = if self.parts.picks_earliest { self.built().ok() } else { None };
-        match every.filter(|_| !input.get_anchored().is_anchored()) {
-            Some(every) => FindIter::picked(FindOverlappingIter::new(every, &input)),
-            None => FindIter::one_by_one(self, input),
-        }
     }
 
     /// Every occurrence, also overlapping and nested ones: ordered by ends, at one end the longest first, and of equal
@@ -265,7 +264,7 @@ impl AhoCorasick {
     /// The search for every occurrence in an input, if one is made.
     #[inline]
     fn every_of(&self, input: &Input<'_>) -> Result<Every<'_>, MatchError> {
-        self.check_start(input.get_anchored())?;
+        self.check(input.get_anchored())?;
         self.every_by_kind(input)
     }
 
@@ -274,8 +273,8 @@ impl AhoCorasick {
     pub(crate) fn every_by_kind(&self, input: &Input<'_>) -> Result<Every<'_>, MatchError> {
         self.check_overlapping()?;
         let every = self.unanchored_every(input.get_anchored())?;
-        let first = Some(&self.parts.leftmost).filter(|_| self.parts.patterns_len <= FEW_PATTERNS);
-        Ok(Every { first, ..every })
+        let has_few = self.patterns_len() <= FEW_PATTERNS && !self.has_empty();
+        Ok(Every { first: Some(&self.parts.leftmost).filter(|_| has_few), ..every })
     }
 
     /// The search for every occurrence, for calls that make no anchored search.
@@ -294,8 +293,8 @@ impl AhoCorasick {
     ///
     /// # Panics
     ///
-    /// Like [`AhoCorasick::find`], and if the kind of match is not [`MatchKind::Standard`], or the array for every
-    /// occurrence can't be built. It may panic if the haystack has become shorter.
+    /// Like [`AhoCorasick::find`], and if the kind of match is not [`MatchKind::Standard`], or the input is not anchored
+    /// and the array for every occurrence can't be built. It may panic if the haystack has become shorter.
     ///
     /// ```
     /// use aho_corasick::{automaton::OverlappingState, AhoCorasick, Match};
@@ -307,6 +306,7 @@ impl AhoCorasick {
     /// assert_eq!(state.get_match(), Some(Match::must(0, 0..3)));
     /// # Ok::<(), aho_corasick::BuildError>(())
     /// ```
+    #[inline]
     pub fn find_overlapping<'h, I: Into<Input<'h>>>(&self, input: I, state: &mut OverlappingState) {
         done(self.try_find_overlapping(input, state))
     }
@@ -316,6 +316,7 @@ impl AhoCorasick {
     /// # Errors
     ///
     /// Where that panics, except for the haystack.
+    #[inline]
     pub fn try_find_overlapping<'h, I: Into<Input<'h>>>(
         &self,
         input: I,
@@ -323,28 +324,32 @@ impl AhoCorasick {
     ) -> Result<(), MatchError> {
         let input = input.into();
         self.check(input.get_anchored())?;
-        state.step(self.every()?, &input);
+        self.check_overlapping()?;
+        match &self.parts.trie {
+            Some(trie) if input.get_anchored().is_anchored() => state.step_anchored(trie, &input),
+            _ => state.step(self.every()?, &input),
+        }
         Ok(())
     }
 
-    /// Whether searches that are anchored, or not, are made.
+    /// Whether the [`StartKind`] has searches that are anchored, or not.
     #[inline]
     pub(crate) fn check(&self, anchored: Anchored) -> Result<(), MatchError> {
-        self.check_start(anchored)?;
-        match (self.parts.kind, anchored) {
-            (MatchKind::Standard, Anchored::Yes) => self.every().map(|_| ()),
-            _ => Ok(()),
-        }
-    }
-
-    /// Whether the [`StartKind`] has such a search.
-    #[inline]
-    fn check_start(&self, anchored: Anchored) -> Result<(), MatchError> {
         match (self.parts.start_kind, anchored) {
             (StartKind::Unanchored, Anchored::Yes) => Err(MatchError::invalid_input_anchored()),
             (StartKind::Anchored, Anchored::No) => Err(MatchError::invalid_input_unanchored()),
             _ => Ok(()),
         }
+    }
+
+    /// Whether streams are searched.
+    #[cfg(feature = "std")]
+    pub(crate) fn check_stream(&self) -> Result<(), MatchError> {
+        self.check(Anchored::No)?;
+        if self.has_empty() {
+            return Err(MatchError::unsupported_empty());
+        }
+        Ok(())
     }
 
     /// Whether the kind of match has overlapping matches.
@@ -360,74 +365,47 @@ impl AhoCorasick {
     #[inline]
     fn is_plain(&self, input: &Input<'_>) -> bool {
         let is_earliest = input.get_earliest() && self.parts.kind != MatchKind::Standard;
-        !is_earliest && !input.get_anchored().is_anchored() && self.parts.start_kind != StartKind::Anchored
+        !is_earliest && !input.get_anchored().is_anchored() && self.parts.has_plain
     }
 
-    /// The first match, where that is not so.
-    fn try_find_by_flags(&self, input: &Input<'_>) -> Result<Option<Match>, MatchError> {
+    /// Whether a pattern is empty. Then there is a match wherever a search begins.
+    #[inline]
+    pub(crate) fn has_empty(&self) -> bool {
+        self.parts.empty.is_some()
+    }
+
+    /// What makes a search for matches that do not overlap, if it is made.
+    #[inline]
+    fn way(&self, input: &Input<'_>) -> Result<Way<'_>, MatchError> {
+        if self.is_plain(input) {
+            return Ok(Way::Leftmost(&self.parts.leftmost));
+        }
+        self.way_by_flags(input)
+    }
+
+    fn way_by_flags(&self, input: &Input<'_>) -> Result<Way<'_>, MatchError> {
         self.check(input.get_anchored())?;
-        Ok(self.search_by_flags(input))
+        match &self.parts.trie {
+            Some(trie) if input.get_anchored().is_anchored() || self.has_empty() => Ok(Way::Trie(trie)),
+            _ => self.earliest().map(Way::Leftmost),
+        }
     }
 
-    /// The first match of an input that was checked, which is anchored, or for which a leftmost kind is to find the
-    /// earliest match.
-    pub(crate) fn search_by_flags(&self, input: &Input<'_>) -> Option<Match> {
-        let (mut span, is_anchored) = (input.searched(), input.get_anchored().is_anchored());
-        if let Some(every) = self.every_for_earliest(input) {
-            return FindOverlappingIter::new(every, input).next();
-        }
-        if is_anchored {
-            span.end = span.end.min(span.start.saturating_add(self.parts.longest));
-        }
-        let find = |span: Span| {
-            let found = self.parts.leftmost.find(input.haystack(), span)?;
-            Some(found).filter(|it| !is_anchored || it.start() == span.start)
-        };
-        let found = find(span)?;
-        if !input.get_earliest() {
-            return Some(found);
-        }
-        // Bisects the ends. No match begins before the leftmost one; and a match in a shorter span is the longest of
-        // those that end with it, since none begins before it there.
-        let (mut earliest, mut least) = (found, found.start() + self.parts.shortest);
-        while least < earliest.end() {
-            let middle = least + (earliest.end() - least) / 2;
-            match find(Span { start: found.start(), end: middle }) {
-                Some(found) => earliest = found,
-                None => least = middle + 1,
-            }
-        }
-        Some(earliest)
-    }
-
-    /// The search for every occurrence, if the match that is searched for is the one that ends first, and if by a leftmost
-    /// kind the array is built.
-    fn every_for_earliest(&self, input: &Input<'_>) -> Option<Every<'_>> {
-        match self.parts.kind {
-            MatchKind::Standard => Some(done(self.every())),
-            _ if input.get_earliest() => self.parts.every.get().map(|prepared| self.every_by(prepared)),
-            _ => None,
-        }
+    /// The search for the matches that end first, which the first call builds.
+    fn earliest(&self) -> Result<&Leftmost, MatchError> {
+        let Parts { ignore_case, ref leftmost, ref pieces, ref earliest, .. } = *self.parts;
+        let made = earliest.get_or_try(|| leftmost.earliest(ignore_case, pieces)).map_err(not_built)?;
+        Ok(made.as_ref().unwrap_or(leftmost))
     }
 
     /// The search for every occurrence, which the first call builds.
     #[inline]
     pub(crate) fn every(&self) -> Result<Every<'_>, MatchError> {
         self.check_overlapping()?;
-        self.built().map_err(|why| MatchError::new(MatchErrorKind::NotBuilt { why }))
-    }
-
-    /// The same by any kind.
-    #[inline]
-    fn built(&self) -> Result<Every<'_>, BuildError> {
-        let Parts { ignore_case, ref pieces, ref every, .. } = *self.parts;
-        let prepared = every.get_or_try(|| Prepared::overlapping(ignore_case, pieces))?;
-        Ok(self.every_by(prepared))
-    }
-
-    #[inline]
-    fn every_by<'a>(&'a self, prepared: &'a Prepared) -> Every<'a> {
-        Every { prepared, pieces: &self.parts.pieces, longest: self.parts.longest, first: None }
+        let Parts { ignore_case, ref empty, ref pieces, ref every, .. } = *self.parts;
+        let pieces = empty.as_ref().map_or(pieces, |it| &it.pieces);
+        let prepared = every.get_or_try(|| Prepared::overlapping(ignore_case, pieces)).map_err(not_built)?;
+        Ok(Every { prepared, pieces, longest: pieces.longest, empty: empty.as_ref(), first: None })
     }
 
     /// Lists the first known matches from a place on, whatever follows the haystack, or if nothing does; in place of what
@@ -441,7 +419,7 @@ impl AhoCorasick {
             return (reached.next, reached.is_last);
         }
         let known = found.last().map_or(at, |it| it.end());
-        (known.max(haystack.len().saturating_sub(self.parts.longest.saturating_sub(1))), true)
+        (known.max(haystack.len().saturating_sub(self.max_pattern_len().saturating_sub(1))), true)
     }
 
     /// The kind that [`AhoCorasickBuilder::kind`] asked for, and otherwise [`AhoCorasickKind::DFA`].
@@ -461,7 +439,7 @@ impl AhoCorasick {
 
     /// How many patterns there are.
     pub fn patterns_len(&self) -> usize {
-        self.parts.patterns_len
+        self.parts.pieces.len()
     }
 
     /// The length of a pattern, by its number.
@@ -471,20 +449,28 @@ impl AhoCorasick {
 
     /// The length of the shortest pattern, and 0 without patterns.
     pub fn min_pattern_len(&self) -> usize {
-        self.parts.shortest
+        self.parts.pieces.shortest
     }
 
     /// The length of the longest pattern, and 0 without patterns.
     pub fn max_pattern_len(&self) -> usize {
-        self.parts.longest
+        self.parts.pieces.longest
     }
 
-    /// About how many bytes the searcher takes in memory, with the array for every occurrence once that is built.
+    /// About how many bytes the searcher takes in memory, with the arrays that searches have built.
     pub fn memory_usage(&self) -> usize {
-        let Parts { leftmost, pieces, every, .. } = &*self.parts;
-        let every = every.get().map_or(0, |it| core::mem::size_of::<Prepared>() + it.memory_usage());
-        core::mem::size_of::<Parts>() + leftmost.memory_usage() + pieces.memory_usage() + every
+        let Parts { leftmost, earliest, trie, empty, pieces, every, .. } = &*self.parts;
+        let every = every.get().map_or(0, |it| size_of::<Prepared>() + it.memory_usage());
+        let earliest = earliest
+            .get()
+            .map_or(0, |it| size_of::<Option<Leftmost>>() + it.as_ref().map_or(0, Leftmost::memory_usage));
+        let own = size_of::<Parts>() + leftmost.memory_usage() + pieces.memory_usage() + every + earliest;
+        own + trie.as_ref().map_or(0, Trie::memory_usage) + empty.as_ref().map_or(0, Empty::memory_usage)
     }
+}
+
+fn not_built(why: BuildError) -> MatchError {
+    MatchError::new(MatchErrorKind::NotBuilt { why })
 }
 
 /// What a search returns.
@@ -494,7 +480,10 @@ impl AhoCorasick {
 /// If it is not made.
 #[inline]
 pub(crate) fn done<T>(made: Result<T, MatchError>) -> T {
-    made.unwrap_or_else(|why| not_made(&why))
+    match made {
+        Ok(made) => made,
+        Err(why) => not_made(&why),
+    }
 }
 
 #[cold]
@@ -507,7 +496,7 @@ impl fmt::Debug for AhoCorasick {
         f.debug_struct("AhoCorasick")
             .field("match_kind", &self.parts.kind)
             .field("ascii_case_insensitive", &self.parts.ignore_case)
-            .field("patterns_len", &self.parts.patterns_len)
+            .field("patterns_len", &self.patterns_len())
             .finish_non_exhaustive()
     }
 }

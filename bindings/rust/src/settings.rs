@@ -18,7 +18,8 @@ impl Anchored {
 }
 
 /// Which searches a searcher makes. A search that the value leaves out returns a [`MatchError`](crate::MatchError), or
-/// panics. The value changes neither the time nor the memory of the others.
+/// panics. For anchored searches the searcher has a trie of the patterns, which takes at most some 60 bytes for each
+/// pattern, and as many as it has.
 #[derive(Clone, Copy, Debug, Default, PartialEq, Eq)]
 pub enum StartKind {
     /// Anchored and unanchored ones.

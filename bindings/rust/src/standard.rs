@@ -7,6 +7,8 @@
 //! match is the leftmost match of the late patterns, by either leftmost kind.
 use crate::error::Cause;
 use crate::pieces::{with_room, Pieces};
+use crate::sorted::{head, keep_matching, sorted};
+use crate::MatchKind;
 use alloc::vec::Vec;
 
 /// The length up to which patterns are looked for in others.
@@ -16,45 +18,11 @@ const LONGEST: usize = 64;
 /// equal patterns, it has the first. The order is that of the patterns.
 pub fn likely_late(pieces: &Pieces) -> Result<Vec<u32>, Cause> {
     let mut numbers = sorted(pieces)?;
-    keep_without_prefix(pieces, &mut numbers);
+    keep_matching(MatchKind::Standard, pieces, &mut numbers)?;
     let is_late = Known::new(pieces, &numbers)?.are_late()?;
     let mut late = is_late.iter();
     numbers.retain(|_| late.next() == Some(&true));
     Ok(numbers)
-}
-
-/// The numbers of all patterns, in the order of the patterns, and equal ones in the order of numbers.
-fn sorted(pieces: &Pieces) -> Result<Vec<u32>, Cause> {
-    // (the first eight bytes as a number decide most comparisons)
-    let mut keyed = with_room(pieces.len())?;
-    keyed.extend((0..pieces.len() as u32).map(|it| (head(pieces.get(it)), it)));
-    keyed.sort_unstable_by(|(head, number), (other_head, other)| {
-        let by_rest = || (pieces.get(*number), number).cmp(&(pieces.get(*other), other));
-        head.cmp(other_head).then_with(by_rest)
-    });
-    let mut numbers = with_room(keyed.len())?;
-    numbers.extend(keyed.iter().map(|(_, number)| *number));
-    Ok(numbers)
-}
-
-/// The first eight bytes of a text as a number.
-fn head(text: &[u8]) -> u64 {
-    let mut bytes = [0; 8];
-    let len = text.len().min(8);
-    bytes[..len].copy_from_slice(&text[..len]);
-    u64::from_be_bytes(bytes)
-}
-
-/// Removes the patterns that begin with another one, and of equal ones all but the first.
-fn keep_without_prefix(pieces: &Pieces, sorted: &mut Vec<u32>) {
-    // (the patterns that begin with one follow it)
-    let mut last: Option<&[u8]> = None;
-    sorted.retain(|it| {
-        let pattern = pieces.get(*it);
-        let is_kept = last.map_or(true, |prefix| !pattern.starts_with(prefix));
-        last = if is_kept { Some(pattern) } else { last };
-        is_kept
-    });
 }
 
 /// Sorted patterns, none of which begins with another one.

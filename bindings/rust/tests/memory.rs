@@ -1,6 +1,7 @@
 //! Memory that iterations with long patterns need, and what happens if it is refused.
-use aho_corasick::{AhoCorasick, Input, Match, MatchKind};
+use aho_corasick::{AhoCorasick, BuildError, Input, Match, MatchErrorKind, MatchKind, StartKind};
 use std::alloc::{GlobalAlloc, Layout, System};
+use std::error::Error;
 use std::sync::atomic::{AtomicUsize, Ordering};
 use std::sync::Mutex;
 
@@ -80,16 +81,30 @@ fn pages_of_matches() {
 }
 
 #[test]
-fn earliest_matches_with_a_long_pattern() {
+fn earliest_matches() {
     let _alone = ALONE.lock();
-    let (searcher, text) = (searcher(10_000), ("a".repeat(49) + "b").repeat(100));
-    let earliest = || searcher.find_iter(Input::new(&text).earliest(true)).map(|it| it.end()).collect();
-    let (before, ends) = (searcher.memory_usage(), (1..=100).map(|it| 50 * it).collect::<Vec<usize>>());
-    // (while the array for every occurrence can't be built, they are searched for one by one)
-    assert_eq!(refusing::<Vec<usize>>(1 << 15, earliest), ends);
+    let searcher = AhoCorasick::builder().match_kind(MatchKind::LeftmostFirst).build(["abc", "b"]).unwrap();
+    let (before, earliest) = (searcher.memory_usage(), Input::new("abc").earliest(true));
+    // (while the array for them can't be built, there are none)
+    let tried = refusing(512, || searcher.try_find(earliest.clone()));
+    assert!(matches!(tried.unwrap_err().kind(), MatchErrorKind::NotBuilt { .. }));
+    assert!(refusing(512, || searcher.try_find_iter(earliest.clone()).is_err() && searcher.is_match("abc")));
     assert_eq!(searcher.memory_usage(), before);
-    assert_eq!(refusing::<Vec<usize>>(usize::MAX, earliest), ends);
+    assert_eq!(refusing(usize::MAX, || searcher.find(earliest)), Some(Match::must(1, 1..2)));
     assert!(before < searcher.memory_usage());
+}
+
+#[test]
+fn builds_that_fail() {
+    let _alone = ALONE.lock();
+    for start_kind in [StartKind::Unanchored, StartKind::Both] {
+        let words = ["a".repeat(5000), "b".repeat(5000)];
+        let build = || AhoCorasick::builder().start_kind(start_kind).build(&words);
+        let why = refusing(4000, build).unwrap_err();
+        assert_eq!(why.to_string(), "there is not enough memory for the search");
+        let kept: Box<dyn Error + Send + Sync> = Box::new(why.clone());
+        assert_eq!(kept.downcast_ref::<BuildError>(), Some(&why));
+    }
 }
 
 #[test]

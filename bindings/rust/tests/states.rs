@@ -19,12 +19,12 @@ fn ending(automaton: &impl Automaton, state: StateID) -> Vec<PatternID> {
 /// All occurrences in a text, by a loop over states.
 fn occurrences(automaton: &impl Automaton, text: &[u8]) -> Vec<Match> {
     let (mut found, mut state) = (Vec::new(), automaton.start_state(Anchored::No).unwrap());
-    for (at, byte) in text.iter().enumerate() {
-        state = automaton.next_state(Anchored::No, state, *byte);
+    for at in 0..=text.len() {
         assert_eq!(automaton.is_match(state), automaton.match_len(state) > 0);
         for pattern in ending(automaton, state) {
-            found.push(Match::new(pattern, at + 1 - automaton.pattern_len(pattern)..at + 1));
+            found.push(Match::new(pattern, at - automaton.pattern_len(pattern)..at));
         }
+        state = text.get(at).map_or(state, |byte| automaton.next_state(Anchored::No, state, *byte));
     }
     found
 }
@@ -47,7 +47,7 @@ fn states_by_hand() {
 #[test]
 fn loops_find_every_occurrence() {
     let text = b"abababbbaabbabaBAb";
-    for words in [&["ab", "b", "bab", "a", "ab"][..], &["bb", "aabb"], &[]] {
+    for words in [&["ab", "b", "bab", "a", "ab"][..], &["bb", "aabb"], &[], &["ab", "", "b", ""]] {
         for ignore_case in [false, true] {
             let searcher = AhoCorasick::builder().ascii_case_insensitive(ignore_case).build(words).unwrap();
             let wanted: Vec<Match> = searcher.find_overlapping_iter(text).collect();
