@@ -80,7 +80,7 @@ impl AhoCorasickBuilder {
     ///
     /// If there are more than [`PatternID::LIMIT`](crate::PatternID::LIMIT), memory is refused, the table of the search
     /// would have 2^31 entries or more, or the processor lacks the instructions that the library needs. (If the last
-    /// request, of less than two kilobytes, is refused, the program ends, as with Rust's collections.)
+    /// request, of some hundred bytes, is refused, the program ends, as with Rust's collections.)
     pub fn build<I, P>(&self, patterns: I) -> Result<AhoCorasick, BuildError>
     where
         I: IntoIterator<Item = P>,

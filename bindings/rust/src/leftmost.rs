@@ -1,6 +1,6 @@
 //! A search for leftmost matches, by the array of those patterns that can match.
 use crate::declared::{LEFTMOST_FIRST, LEFTMOST_LONGEST};
-use crate::error::BuildError;
+use crate::error::{BuildError, Cause};
 use crate::library::{Prepared, Reached};
 use crate::pieces::{copied, Pieces};
 use crate::sorted::{keep_matching, sorted};
@@ -15,10 +15,10 @@ const MOST: usize = 1024;
 /// A full page is at least a quarter as long as the pattern, so these are at most eight look-ups for each of its bytes.
 const BYTES_EACH: usize = 4;
 
-/// With a longer pattern, parts are searched to know whether there is a match: the first part has so many bytes, and each
-/// other one goes so many times as far.
+/// With a longer pattern, parts may be searched to know whether there is a match: the first part has so many bytes, and
+/// each other one goes so many times as far.
 const LONG: usize = 256;
-const FIRST_PART: usize = 64;
+const FIRST_PART: usize = 256;
 const PART_GROWTH: usize = 8;
 
 pub struct Leftmost {
@@ -27,6 +27,8 @@ pub struct Leftmost {
     numbers: Vec<u32>,
     /// The length of the longest pattern in the array.
     longest: usize,
+    /// Whether a search may read many bytes after the end of a match, since another one may be preferred to it.
+    reads_on: bool,
 }
 
 impl Leftmost {
@@ -43,7 +45,9 @@ impl Leftmost {
             Ok(numbers)
         })?;
         numbers.sort_unstable();
-        Leftmost::of(number, ignore_case, pieces, numbers)
+        let mut leftmost = Leftmost::of(number, ignore_case, pieces, numbers)?;
+        leftmost.reads_on = leftmost.longest > LONG && !leftmost.are_late(ignore_case, pieces)?;
+        Ok(leftmost)
     }
 
     /// The search for the leftmost matches of the late patterns, which are the standard ones. The array tells whether
@@ -60,22 +64,28 @@ impl Leftmost {
 
     /// The search for standard matches, where this one is for those of a leftmost kind; or none, if these are the same.
     pub fn earliest(&self, ignore_case: bool, pieces: &Pieces) -> Result<Option<Leftmost>, BuildError> {
-        let (likely, count) = (pieces.folded(ignore_case, likely_late)?, self.numbers.len());
-        let is_same = likely.len() == if count > 0 { count } else { pieces.len() };
-        if is_same && likely.iter().all(|it| self.is_late(pieces.get(*it))) {
+        if self.are_late(ignore_case, pieces)? {
             return Ok(None);
         }
         Leftmost::standard(ignore_case, pieces).map(Some)
+    }
+
+    /// Whether the patterns of the array are the late patterns.
+    fn are_late(&self, ignore_case: bool, pieces: &Pieces) -> Result<bool, Cause> {
+        let (likely, count) = (pieces.folded(ignore_case, likely_late)?, self.numbers.len());
+        let is_same = likely.len() == if count > 0 { count } else { pieces.len() };
+        Ok(is_same && likely.iter().all(|it| self.is_late(pieces.get(*it))))
     }
 
     /// The search for some of the patterns.
     fn of(kind: u32, ignore_case: bool, pieces: &Pieces, numbers: Vec<u32>) -> Result<Leftmost, BuildError> {
         if numbers.len() == pieces.len() {
             let prepared = Prepared::leftmost(kind, ignore_case, pieces)?;
-            return Ok(Leftmost { prepared, numbers: Vec::new(), longest: pieces.longest });
+            return Ok(Leftmost { prepared, numbers: Vec::new(), longest: pieces.longest, reads_on: false });
         }
         let some = pieces.of(&numbers)?;
-        Ok(Leftmost { prepared: Prepared::leftmost(kind, ignore_case, &some)?, numbers, longest: some.longest })
+        let prepared = Prepared::leftmost(kind, ignore_case, &some)?;
+        Ok(Leftmost { prepared, numbers, longest: some.longest, reads_on: false })
     }
 
     /// Whether no pattern of the array is found in one before its last byte.
@@ -94,23 +104,28 @@ impl Leftmost {
         Some(self.named(found))
     }
 
-    /// Whether there is a match in a span. With a long pattern it searches parts, each much longer than the one before:
-    /// if a match ends in one, no bytes after it are read to know whether a longer one begins there or before.
+    /// Whether there is a match in a span.
     #[inline]
     pub fn is_match(&self, haystack: &[u8], span: Span) -> bool {
-        let mut part = span;
-        if self.longest > LONG {
-            let mut len = FIRST_PART;
-            while len < span.len() {
-                part.end = span.start + len;
-                if self.prepared.find(haystack, part).is_some() {
-                    return true;
-                }
-                part.start = span.start.max((part.end + 1).saturating_sub(self.longest));
-                len = len.saturating_mul(PART_GROWTH);
-            }
+        if self.reads_on && span.len() > FIRST_PART {
+            return self.is_match_in_parts(haystack, span);
         }
-        self.prepared.find(haystack, Span { end: span.end, ..part }).is_some()
+        self.prepared.find(haystack, span).is_some()
+    }
+
+    /// The same by searches in parts, each much longer than the one before. If a match ends in one, the search there reads
+    /// no bytes after it.
+    fn is_match_in_parts(&self, haystack: &[u8], span: Span) -> bool {
+        let (mut start, mut len) = (span.start, FIRST_PART);
+        while len < span.len() {
+            let part = Span { start, end: span.start + len };
+            if self.prepared.find(haystack, part).is_some() {
+                return true;
+            }
+            start = start.max((part.end + 1).saturating_sub(self.longest));
+            len = len.saturating_mul(PART_GROWTH);
+        }
+        self.prepared.find(haystack, Span { start, end: span.end }).is_some()
     }
 
     /// Lists the first matches in a span, at most so many, in place of what was in the list. If memory for a large page is

@@ -33,7 +33,7 @@ pub struct Trie {
     /// The patterns by their numbers, ordered as bytes.
     numbers: Vec<u32>,
     /// The child of the root by each first byte after the bytes of the root.
-    first: [u32; 256],
+    first: Vec<u32>,
     /// Whether the root has bytes or patterns.
     begins_at_root: bool,
 }
@@ -71,7 +71,8 @@ impl Trie {
             if !is_standard {
                 keep_matching(kind, pieces, &mut numbers)?;
             }
-            let (nodes, labels, bytes, first) = (Vec::new(), Vec::new(), Vec::new(), [NONE; 256]);
+            let (nodes, labels, bytes, mut first) = (Vec::new(), Vec::new(), Vec::new(), with_room(256)?);
+            first.resize(256, NONE);
             let mut trie =
                 Trie { ignore_case, is_standard, nodes, labels, bytes, numbers, first, begins_at_root: true };
             trie.grow(pieces)?;
@@ -237,7 +238,7 @@ impl Trie {
         self.nodes.capacity() * size_of::<Node>()
             + self.labels.capacity()
             + self.bytes.capacity()
-            + self.numbers.capacity() * size_of::<u32>()
+            + (self.numbers.capacity() + self.first.capacity()) * size_of::<u32>()
     }
 }
 
