@@ -32,10 +32,8 @@ pub struct Trie {
     bytes: Vec<u8>,
     /// The patterns by their numbers, ordered as bytes.
     numbers: Vec<u32>,
-    /// The child of the root by each first byte after the bytes of the root.
+    /// The child of the root by each first byte; empty if the root has bytes or patterns.
     first: Vec<u32>,
-    /// Whether the root has bytes or patterns.
-    begins_at_root: bool,
 }
 
 /// A node, with its places in the lists of the trie.
@@ -71,12 +69,10 @@ impl Trie {
             if !is_standard {
                 keep_matching(kind, pieces, &mut numbers)?;
             }
-            let (nodes, labels, bytes, mut first) = (Vec::new(), Vec::new(), Vec::new(), with_room(256)?);
-            first.resize(256, NONE);
-            let mut trie =
-                Trie { ignore_case, is_standard, nodes, labels, bytes, numbers, first, begins_at_root: true };
+            let (nodes, labels, bytes, first) = (Vec::new(), Vec::new(), Vec::new(), Vec::new());
+            let mut trie = Trie { ignore_case, is_standard, nodes, labels, bytes, numbers, first };
             trie.grow(pieces)?;
-            trie.note_root();
+            trie.note_first()?;
             Ok(trie)
         })
     }
@@ -122,16 +118,21 @@ impl Trie {
         }
     }
 
-    fn note_root(&mut self) {
+    /// Notes the children of the root, so that a search need not begin there.
+    fn note_first(&mut self) -> Result<(), Cause> {
         let Node { bytes, children, patterns } = &self.nodes[ROOT as usize];
-        self.begins_at_root = bytes.0 < bytes.1 || patterns.0 < patterns.1;
-        let (children, labels) = (children.0, &self.labels[range(*children)]);
-        for (child, label) in (children..).zip(labels) {
+        if bytes.0 < bytes.1 || patterns.0 < patterns.1 {
+            return Ok(());
+        }
+        self.first = with_room(256)?;
+        self.first.resize(256, NONE);
+        for (child, label) in (children.0..).zip(&self.labels[range(*children)]) {
             self.first[usize::from(*label)] = child;
             if self.ignore_case {
                 self.first[usize::from(label.to_ascii_uppercase())] = child;
             }
         }
+        Ok(())
     }
 
     /// Whether a pattern begins where the input does.
@@ -162,7 +163,7 @@ impl Trie {
     #[inline]
     pub fn begin(&self, input: &Input<'_>) -> Path {
         let node = match input.haystack()[..input.end()].get(input.start()) {
-            Some(byte) if !self.begins_at_root => self.first[usize::from(*byte)],
+            Some(byte) if !self.first.is_empty() => self.first[usize::from(*byte)],
             _ if input.is_done() => NONE,
             _ => ROOT,
         };
@@ -176,14 +177,16 @@ impl Trie {
         while let Some(node) = self.nodes.get(path.node as usize) {
             // (the first byte led here)
             path.at += usize::from(path.node != ROOT);
-            let edge = &self.bytes[range(node.bytes)];
-            let shared = self.shared(edge, &text[path.at..]);
-            path.at += shared;
-            if shared < edge.len() {
-                path.node = NONE;
-                return None;
+            if node.bytes.0 < node.bytes.1 {
+                let edge = &self.bytes[range(node.bytes)];
+                let shared = self.shared(edge, &text[path.at..]);
+                path.at += shared;
+                if shared < edge.len() {
+                    path.node = NONE;
+                    return None;
+                }
             }
-            path.node = text.get(path.at).map_or(NONE, |byte| self.child(path.node, node, *byte));
+            path.node = text.get(path.at).map_or(NONE, |byte| self.child(node, *byte));
             if node.patterns.0 < node.patterns.1 {
                 return Some(range(node.patterns));
             }
@@ -198,10 +201,7 @@ impl Trie {
 
     /// The node that follows one by a byte.
     #[inline]
-    fn child(&self, number: u32, node: &Node, byte: u8) -> u32 {
-        if number == ROOT {
-            return self.first[usize::from(byte)];
-        }
+    fn child(&self, node: &Node, byte: u8) -> u32 {
         let (labels, byte) = (&self.labels[range(node.children)], self.folded(byte));
         let index = if labels.len() <= FEW_CHILDREN {
             labels.iter().position(|it| *it == byte)

@@ -83,12 +83,13 @@ fn pages_of_matches() {
 #[test]
 fn earliest_matches() {
     let _alone = ALONE.lock();
-    let searcher = AhoCorasick::builder().match_kind(MatchKind::LeftmostFirst).build(["abc", "b"]).unwrap();
+    let words = ["abc".to_string(), "b".to_string(), "d".repeat(10_000) + "e"];
+    let searcher = AhoCorasick::builder().match_kind(MatchKind::LeftmostFirst).build(words).unwrap();
     let (before, earliest) = (searcher.memory_usage(), Input::new("abc").earliest(true));
     // (while the array for them can't be built, there are none)
-    let tried = refusing(512, || searcher.try_find(earliest.clone()));
+    let tried = refusing(1 << 15, || searcher.try_find(earliest.clone()));
     assert!(matches!(tried.unwrap_err().kind(), MatchErrorKind::NotBuilt { .. }));
-    assert!(refusing(512, || searcher.try_find_iter(earliest.clone()).is_err() && searcher.is_match("abc")));
+    assert!(refusing(1 << 15, || searcher.try_find_iter(earliest.clone()).is_err() && searcher.is_match("abc")));
     assert_eq!(searcher.memory_usage(), before);
     assert_eq!(refusing(usize::MAX, || searcher.find(earliest)), Some(Match::must(1, 1..2)));
     assert!(before < searcher.memory_usage());
@@ -98,9 +99,9 @@ fn earliest_matches() {
 fn builds_that_fail() {
     let _alone = ALONE.lock();
     for start_kind in [StartKind::Unanchored, StartKind::Both] {
-        let words = ["a".repeat(5000), "b".repeat(5000)];
+        let words = ["a".repeat(50_000), "b".repeat(50_000)];
         let build = || AhoCorasick::builder().start_kind(start_kind).build(&words);
-        let why = refusing(4000, build).unwrap_err();
+        let why = refusing(1 << 15, build).unwrap_err();
         assert_eq!(why.to_string(), "there is not enough memory for the search");
         let kept: Box<dyn Error + Send + Sync> = Box::new(why.clone());
         assert_eq!(kept.downcast_ref::<BuildError>(), Some(&why));
