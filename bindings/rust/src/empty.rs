@@ -1,6 +1,6 @@
-//! Empty patterns. They match at every offset, so each search has a match where it begins. The trie finds that, as its
-//! root is where they end. Every occurrence of the other patterns is searched for by the library, which takes no empty
-//! ones, and theirs are put between these.
+//! Empty patterns, which the library refuses. An empty pattern matches at every offset, so each search has a match where it
+//! begins. The trie finds this match: empty patterns end at its root. To list every occurrence, the library searches for
+//! the other patterns, and the empty matches are inserted here.
 use crate::error::Cause;
 use crate::pieces::{with_room, Pieces};
 use crate::{Input, Match, PatternID};
@@ -17,7 +17,7 @@ pub struct Empty {
 }
 
 impl Empty {
-    /// Those of a list, if it has empty patterns.
+    /// Splits a list, if it has empty patterns.
     pub fn of(pieces: &Pieces) -> Result<Option<Empty>, Cause> {
         if pieces.shortest > 0 || pieces.len() == 0 {
             return Ok(None);
@@ -40,7 +40,7 @@ impl Empty {
     }
 }
 
-/// Which occurrences of empty patterns come next.
+/// How far the empty matches have been listed.
 #[derive(Clone, Debug)]
 pub struct EmptyOccurrences {
     at: usize,
