@@ -17,6 +17,7 @@ ghost use Rattle.std.specs.Result.{IsOkAnd};
 use crate::unmarked::pass_unmarked;
 use literal_base::count::Tally;
 use literal_base::{Match, Span};
+use literal_rows::array::scan_in;
 use literal_rows::damaged::Damaged;
 use literal_rows::walk::{ENDS, Table};
 
@@ -172,6 +173,7 @@ impl<'t> Backward<'t> {
     /// The same if it is not known. A scan passes over bytes up to a candidate. If it passed over enough, the haystack
     /// is compared there with the only pattern, if that is short; otherwise this offset is marked alone. If it passed
     /// over few bytes, a block is marked. It is not inlined, so that a match in a marked block costs little.
+    #[tactic(auto, using(crate::proofs::lemmas::Leftmost::ahead_few))]
     #[inline(never)]
     fn mark_ahead(
         &self,
@@ -191,11 +193,12 @@ impl<'t> Backward<'t> {
         ensures { HasLookedAhead self.now haystack.now span from numbers.old numbers.new marks.old marks.new tally.old
             tally.new result }
     {
+        let scan = &scan_in(self.prints);
         let rest = Span {
             start: from,
             end: span.end,
         };
-        let at = self.pass_from(haystack, rest, tally);
+        let at = self.pass_over(scan, haystack, rest, tally);
         if at == span.end {
             *marks = no_marks(at);
             return Ok(nothing_before(at));

@@ -307,28 +307,6 @@ impl<'t> Backward<'t> {
         }
     }
 
-    /// The same for the scan of the search. If it goes by a rare pair, no fingerprints are loaded.
-    #[inline(always)]
-    pub(crate) fn pass_from(&self, haystack: &[u8], span: Span, tally: &mut Tally) -> usize
-        requires safe { IsSafe self.now }
-        requires valid { IsValidSpan haystack.now span }
-        ensures none { ForBackward self.now (λ tables.
-            NoneFrom tables haystack.now span.end span.start result) }
-        ensures inside { (span.start ≤ result) × (result ≤ span.end) }
-        ensures others { tally.new ≡ record tally.old { scanned = tally.new.scanned } }
-        ensures most { tally.new.scanned + 3 * span.start
-            ≤ tally.old.scanned + 3 * result + min OVERLAP (span.end - result) }
-        ensures ahead { tally.new.scanned + span.start
-            ≤ tally.old.scanned + result + min 37 (span.end - result) }
-        ensures least { tally.old.scanned + result ≤ tally.new.scanned + span.start }
-    {
-        let by_pair = &pair_scan_in(self.prints);
-        if by_pair.is_some() {
-            return self.pass_over(by_pair, haystack, span, tally);
-        }
-        self.pass_over(&scan_in(self.prints), haystack, span, tally)
-    }
-
     /// The progress of a search of a span that has not begun.
     #[inline(always)]
     pub(crate) fn begin_at(&self, span: Span) -> Progress
@@ -377,7 +355,8 @@ impl<'t> Backward<'t> {
         }
     }
 
-    /// The progress of a search of a span after the first pass by its scan.
+    /// The progress of a search of a span after the first pass by its scan. If it goes by a rare pair, no fingerprints
+    /// are loaded.
     #[inline(always)]
     pub(crate) fn pass_first(&self, haystack: &[u8], span: Span, tally: &mut Tally) -> Progress
         requires safe { IsSafe self.now }

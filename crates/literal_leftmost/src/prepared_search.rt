@@ -17,7 +17,9 @@ use crate::cursor::Cursor;
 use literal_base::count::Tally;
 use literal_base::packed::MatchKind;
 use literal_base::{Match, Span};
-use literal_rows::array::{KIND_AT, LENGTHS_AT, PREPARED_VERSION, SCAN_LEN, is_checked, split};
+use literal_rows::array::{
+    KIND_AT, LENGTHS_AT, PREPARED_VERSION, SCAN_LEN, is_checked, scan_in, split,
+};
 use literal_rows::classes::CLASSES_LEN;
 use literal_rows::damaged::Damaged;
 use literal_rows::walk::Table;
@@ -143,7 +145,8 @@ impl<'p> Prepared<'p> {
         ensures most { tally.new.scanned ≤ tally.old.scanned + 3 * (result - span.start) + 19 }
         ensures least { tally.old.scanned + (result - span.start) ≤ tally.new.scanned }
     {
-        self.backward().pass_from(haystack, span, tally)
+        let backward = self.backward();
+        backward.pass_over(&scan_in(backward.prints), haystack, span, tally)
     }
 
     /// Returns the number of matches that [`Prepared::find_iter_in`] gives, or `None` if the array does not say that

@@ -16,6 +16,7 @@ use crate::backward::{Backward, FAR, LEAST, Marks, no_marks};
 use crate::lanes::OVERLAP;
 use literal_base::count::Tally;
 use literal_base::{Match, Span};
+use literal_rows::array::scan_in;
 use literal_rows::damaged::Damaged;
 use literal_rows::walk::ENDS;
 
@@ -310,7 +311,7 @@ impl<'t> Backward<'t> {
             start: from,
             end: span.end,
         };
-        let at = self.pass_from(haystack, rest, tally);
+        let at = self.pass_over(&scan_in(self.prints), haystack, rest, tally);
         if at == span.end {
             trail.block = Span { start: at, end: at };
             *marks = no_marks(at);
