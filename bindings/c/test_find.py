@@ -1,6 +1,6 @@
 """Compiles the header and the programs in C, and runs them: under the sanitizers, with little stack, by each build for
-x86-64, on an older processor, and for aarch64. It takes the libraries of dist/, and the shared one from where
-bindings/test installs it."""
+x86-64, on an older processor, for aarch64, and with musl, another C library. It takes the libraries of dist/, and the
+shared one from where bindings/test installs it."""
 import os
 import re
 import shutil
@@ -26,7 +26,7 @@ int three(void) __asm__("level.v3");
 int three(void) { return 3; }
 int main(void) { return printf("%d %d", level(), __builtin_cpu_supports("x86-64-v3") ? 3 : 2) < 0; }
 """
-CROSS = "aarch64-linux-gnu-gcc"
+CROSS, MUSL = "aarch64-linux-gnu-gcc", "musl-gcc"
 TEXT = "Nobody likes maple in their apple flavored Snapple.\n"
 WORDS, FOUND = ["apple", "maple", "Snapple"], "1 13 18\n0 28 33\n2 43 50\n"
 PROGRAMS = (("litfind", ("longest", *WORDS)), ("litscan", ("-n", "-e", "apple", "-e", "maple", "-e", "they")))
@@ -61,6 +61,26 @@ class Programs(unittest.TestCase):
         program = f"{self.room.name}/{name}-{compiler}"
         command = [compiler, "-std=c11", *WARNINGS, *words, f"{HERE}/{name}.c", str(library)]
         self.assertEqual(run(*command, "-pthread", "-o", program), (0, ""))
+        return program
+
+    def assert_same_matches(self, compiled):
+        """Programs find the same as here, for lists that are searched for in different ways. A function compiles one,
+        and answers the words that run it."""
+        text = (HERE / "literal_search.h").read_text("ascii")
+        words = sorted(set(re.findall(r"\w{3,}", text)), key=lambda it: it[::-1])
+        for name in ("find", "stream"):
+            there, here = compiled(name), self.compiled(name)
+            for count in (1, 2, 3, 8, 16, 32, 128, 400):
+                found = run(here, *words[:count], text=text)
+                self.assertEqual(run(*there, *words[:count], text=text), found)
+                self.assertGreaterEqual(found[1].count("\n"), count)
+
+    def level(self, *words, compiler="cc"):
+        """A program that prints which build dist/choose.s chooses, and which one the compiler would."""
+        source, program = Path(self.room.name, "level.s"), f"{self.room.name}/level-{compiler}"
+        source.write_text((DIST / "choose.s").read_text("ascii") + "export level\n", "ascii")
+        command = [compiler, *words, "-xc", "-", "-xassembler", str(source), "-o", program]
+        self.assertEqual(run(*command, text=LEVEL), (0, ""))
         return program
 
 
@@ -116,10 +136,7 @@ class Find(Programs):
 
     def test_choice_of_the_build(self):
         """It agrees with the compiler's test for the level, also on processors that lack one of its features."""
-        source, program = Path(self.room.name, "level.s"), f"{self.room.name}/level"
-        source.write_text((DIST / "choose.s").read_text("ascii") + "export level\n", "ascii")
-        self.assertEqual(run("cc", "-xc", "-", "-xassembler", str(source), "-o", program, text=LEVEL), (0, ""))
-        find, processors = self.compiled("find"), [[]]
+        program, find, processors = self.level(), self.compiled("find"), [[]]
         if shutil.which("qemu-x86_64"):
             lacking = ("avx2", "bmi1", "bmi2", "f16c", "fma", "abm", "movbe", "xsave")
             named = ("Nehalem", "Haswell", "Haswell,level=6", *(f"Haswell,-{it}" for it in lacking))
@@ -153,6 +170,15 @@ class Find(Programs):
         for words in (("-g", LIBRARY), ("-g", FOR_ARM), ("-D", SHARED)):
             self.assertEqual(exports(*words), names)
 
+    def test_what_the_archives_need(self):
+        """Functions that every C library has, and neither thread-local variables nor ifuncs."""
+        for archive in (str(LIBRARY), str(FOR_ARM)):
+            needed = set(re.findall(r" U (\w+)", run("nm", "-u", archive)[1]))
+            self.assertEqual(needed, {"malloc", "realloc", "free", "memcpy", "memmove", "memset"})
+            symbols = run("readelf", "-sW", archive)[1]
+            self.assertIn(" FUNC ", symbols)
+            self.assertNotRegex(symbols, " (TLS|IFUNC) ")
+
     def test_older_processors_are_refused(self):
         """The loader reads the mark that GNU ld takes over from the library."""
         find = self.compiled("find")
@@ -173,16 +199,31 @@ class OnArm(Programs):
         self.assertEqual(run(*self.compiled_for_arm("calls")), (0, ""))
 
     def test_same_matches(self):
-        """As here, for lists that are searched for in different ways."""
-        text = (HERE / "literal_search.h").read_text("ascii")
-        words = sorted(set(re.findall(r"\w{3,}", text)), key=lambda it: it[::-1])
-        for name in ("find", "stream"):
-            on_arm = self.compiled_for_arm(name)
-            here = self.compiled(name)
-            for count in (1, 2, 3, 8, 16, 32, 128, 400):
-                found = run(here, *words[:count], text=text)
-                self.assertEqual(run(*on_arm, *words[:count], text=text), found)
-                self.assertGreaterEqual(found[1].count("\n"), count)
+        self.assert_same_matches(self.compiled_for_arm)
+
+
+@unittest.skipUnless(shutil.which(MUSL), f"there is no {MUSL}")
+class OnMusl(Programs):
+    """With the archive, linked statically and dynamically."""
+    LINKED = ["-static"], []
+
+    def test_calls(self):
+        for words in self.LINKED:
+            program = self.compiled("calls", *words, compiler=MUSL)
+            self.assertEqual("[libc.so]" in run("readelf", "-d", program)[1], not words)
+            self.assertEqual(run(program), (0, ""))
+            self.assertEqual(run(program, "stack"), (0, ""))
+
+    def test_same_matches(self):
+        for words in self.LINKED:
+            self.assert_same_matches(lambda name, words=words: [self.compiled(name, *words, compiler=MUSL)])
+
+    def test_choice_of_the_build(self):
+        """The constructor that makes it runs before main."""
+        here = run(self.level())
+        self.assertIn(here, ((0, "2 2"), (0, "3 3")))
+        for words in self.LINKED:
+            self.assertEqual(run(self.level(*words, compiler=MUSL)), here)
 
 
 class Build(unittest.TestCase):
