@@ -21,8 +21,23 @@ TEXT, WORDS = "Nobody likes maple in their apple flavored Snapple.\n", ["apple",
 FOUND = "1 13 18\n0 28 33\n2 43 50\n"
 FILES = ["bin/litscan", "bin/litfind", "include/literal_search.h", "lib/libliteral_search.a",
          "lib/libliteral_search.so.0", "lib/libliteral_search.so", "lib/pkgconfig/literal_search.pc",
+         "lib/cmake/literal_search/literal_search-config.cmake",
+         "lib/cmake/literal_search/literal_search-config-version.cmake",
          *(str(it.relative_to(TOP)) for it in (PAGE, BASH, ZSH, FISH))]
+LIBRARY_FILES = {it for it in FILES if it.startswith(("include/", "lib/"))}
 TOOLS = ("sh", "dirname", "readlink", "sed", "mkdir", "cp", "mv", "rm", "ln", "chmod", "cat", "mktemp")
+
+CMAKE = """cmake_minimum_required(VERSION 3.13)
+project(example C)
+find_package(literal_search ${VERSION} REQUIRED)
+find_package(literal_search ${VERSION} REQUIRED)
+add_executable(find find.c)
+target_link_libraries(find literal_search::literal_search)
+add_executable(find_static find.c)
+target_link_libraries(find_static literal_search::static)
+"""
+MUSL = ("musl-gcc", "musl-ldd")
+AS_MUSL = "echo 'musl libc (x86_64)' >&2; exit 1"
 
 # Where bindings/test runs this, a library that refuses a request for memory stands before the C library.
 PLAIN = {name: value for name, value in os.environ.items() if name not in ("LD_PRELOAD", "DESTDIR", "CC")}
@@ -105,22 +120,70 @@ class Install(unittest.TestCase):
         self.assertEqual(set(self.installed(packed)), set(FILES))
         self.assertIn(f"prefix={self.prefix}\n", read(packed / "lib/pkgconfig/literal_search.pc"))
 
-    @unittest.skipUnless(shutil.which("pkg-config"), "there is no pkg-config")
-    def test_pkg_config(self):
-        """A program that is linked with either library, and run in another folder."""
-        self.install(self.prefix)
-        given = {**PLAIN, "PKG_CONFIG_PATH": f"{self.prefix}/lib/pkgconfig"}
+    def assert_linked(self, lib="lib", compiler="cc", ldd="ldd"):
+        """A program is linked with either library, with the words of pkg-config, and runs in another folder."""
+        given = {**PLAIN, "PKG_CONFIG_PATH": f"{self.prefix}/{lib}/pkgconfig"}
         flags = shlex.split(run("pkg-config", "--cflags", "--libs", "literal_search", env=given)[1])
         version = run("pkg-config", "--modversion", "literal_search", env=given)[1]
         self.assertIn(f'LITERAL_VERSION "{version.strip()}"', library.HEADER)
-        find, example = self.room / "find", TOP / "bindings/c/find.c"
+        find = self.room / "find"
         for static in (False, True):
             if static:
-                (self.prefix / "lib/libliteral_search.so").unlink()
-            linked = ["cc", example, *flags, f"-Wl,-rpath,{self.prefix}/lib", "-o", find]
+                (self.prefix / lib / "libliteral_search.so").unlink()
+            linked = [compiler, self.example(), *flags, f"-Wl,-rpath,{self.prefix}/{lib}", "-o", find]
             self.assertEqual(run(*linked), (0, ""))
             self.assertEqual(run(find, *WORDS, text=TEXT, cwd="/"), (0, FOUND))
-            self.assertEqual("libliteral_search.so.0" not in run("ldd", find)[1], static)
+            self.assertEqual("libliteral_search.so.0" not in run(ldd, find)[1], static)
+
+    def example(self):
+        """The example, in a folder without the header."""
+        return shutil.copy(TOP / "bindings/c/find.c", self.room / "find.c")
+
+    @unittest.skipUnless(shutil.which("pkg-config"), "there is no pkg-config")
+    def test_pkg_config(self):
+        self.install(self.prefix)
+        self.assert_linked()
+
+    @unittest.skipUnless(shutil.which("pkg-config"), "there is no pkg-config")
+    def test_libdir(self):
+        """The libraries and their files go to another folder, given relative to the prefix or as an absolute path."""
+        for given, lib in (("lib64", "lib64"), (f"{self.prefix}/lib/x86_64-linux-gnu/", "lib/x86_64-linux-gnu")):
+            self.install("--libdir", given, self.prefix)
+            files = {re.sub("^lib/", f"{lib}/", it) for it in FILES}
+            self.assertEqual(set(self.installed()), files)
+            self.assert_linked(lib)
+            self.assertEqual(run(INSTALL, "--uninstall", "--libdir", given, self.prefix)[0], 0)
+            self.assertEqual(self.installed(), {})
+
+    @unittest.skipUnless(shutil.which("cmake"), "there is no cmake")
+    def test_cmake(self):
+        """Programs linked with each library, where it was installed, and after all files were moved."""
+        self.example()
+        multiarch = run("cc", "-print-multiarch")[1].strip()
+        for lib in filter(None, ("lib", multiarch and f"lib/{multiarch}")):
+            self.install("--libdir", lib, self.prefix)
+            self.assert_built(self.prefix, True)
+            (self.prefix / lib / "libliteral_search.so.0").unlink()
+            moved = self.prefix.rename(self.room / f"moved {len(lib)}")
+            self.assert_built(moved, False)
+
+    def assert_built(self, prefix, shared):
+        """CMake finds the versions that will do, and builds programs, one with the shared library if that is there."""
+        (self.room / "CMakeLists.txt").write_text(CMAKE, "utf-8")
+        built = Path(tempfile.mkdtemp(dir=self.room))
+        words = ("cmake", "-S", self.room, "-B", built, f"-DCMAKE_PREFIX_PATH={prefix}")
+        for other in ("0.1.1", "0.2", "1.0"):
+            status, said = run(*words, f"-DVERSION={other}")
+            self.assertEqual(status, 1)
+            self.assertRegex(said, rf'compatible with\s+requested\s+version\s+"{other}"')
+        for wanted in ("", "0.1", "0.1.0"):
+            status, said = run(*words, f"-DVERSION={wanted}")
+            self.assertEqual(status, 0, said)
+        status, said = run("cmake", "--build", built)
+        self.assertEqual(status, 0, said)
+        for program, is_shared in (("find", shared), ("find_static", False)):
+            self.assertEqual(run(built / program, *WORDS, text=TEXT, cwd="/"), (0, FOUND))
+            self.assertEqual(f"{prefix}" in run("ldd", built / program)[1], is_shared)
 
     def test_without_a_compiler(self):
         """What stays is no shared library of another version."""
@@ -138,13 +201,15 @@ class Install(unittest.TestCase):
             "FreeBSD on x86_64 with glibc 2.34": {"uname": '[ "$1" = -m ] && echo x86_64 || echo FreeBSD'},
             "Linux on x86_64 with glibc 2.33": {"getconf": "echo glibc 2.33"},
             "Linux on x86_64 with glibc 2.4": {"getconf": "echo glibc 2.4"},
-            "Linux on x86_64 with another C library": {"getconf": "exit 1"},
+            "Linux on x86_64 with another C library": {"getconf": "exit 1", "ldd": "echo other libc"},
+            "Linux on aarch64 with musl": {"getconf": "exit 1", "ldd": AS_MUSL,
+                                           "uname": '[ "$1" = -m ] && echo aarch64 || echo Linux'},
         }
         for machine, other in others.items():
             given = self.path_of(*TOOLS, **{**here, **other})
             status, said = run(INSTALL, "--from", self.given, self.prefix, env=given)
-            why = f"only Linux on x86_64 or aarch64 with glibc 2.34 or newer is supported, and this is {machine}"
-            self.assertEqual((status, said), (1, f"install: {why}\n"))
+            target = "Linux on x86_64 or aarch64 with glibc 2.34 or newer, or on x86_64 with musl,"
+            self.assertEqual((status, said), (1, f"install: only {target} is supported, and this is {machine}\n"))
             self.assertFalse(self.prefix.exists())
         for glibc in ("2.34", "2.40", "3.0"):
             self.install(self.prefix, env=self.path_of(*TOOLS, **{**here, "getconf": f"echo glibc {glibc}"}))
@@ -153,17 +218,39 @@ class Install(unittest.TestCase):
         """The library alone, from its folder in dist/."""
         machine = {"uname": '[ "$1" = -m ] && echo aarch64 || echo Linux', "getconf": "echo glibc 2.34"}
         self.assertEqual(run(INSTALL, self.prefix, env=self.path_of(*TOOLS, **machine))[0], 0)
-        files = ["include/literal_search.h", "lib/libliteral_search.a", "lib/pkgconfig/literal_search.pc"]
-        self.assertEqual(set(self.installed()), set(files))
+        self.assertEqual(set(self.installed()), {it for it in LIBRARY_FILES if ".so" not in it})
         given = (TOP / "dist/aarch64-linux-gnu/libliteral_search.a").read_bytes()
-        self.assertEqual((self.prefix / files[1]).read_bytes(), given)
+        self.assertEqual((self.prefix / "lib/libliteral_search.a").read_bytes(), given)
+
+    def test_on_musl(self):
+        """The library alone, since the programs need glibc."""
+        machine = {"uname": '[ "$1" = -m ] && echo x86_64 || echo Linux', "getconf": "exit 1", "ldd": AS_MUSL}
+        self.assertEqual(run(INSTALL, self.prefix, env=self.path_of(*TOOLS, **machine))[0], 0)
+        self.assertEqual(set(self.installed()), {it for it in LIBRARY_FILES if ".so" not in it})
+        self.assertEqual((self.prefix / "lib/libliteral_search.a").read_bytes(), ARCHIVE.read_bytes())
+
+    @unittest.skipUnless(all(map(shutil.which, (*MUSL, "pkg-config"))), f"there is no {MUSL[0]}, or no pkg-config")
+    def test_for_musl(self):
+        """Programs and the shared library, linked by a compiler for musl. Its loader says that it is musl's."""
+        compiler, ldd = map(shutil.which, MUSL)
+        machine = self.path_of(getconf="exit 1", ldd=f'exec {ldd} "$@"')
+        given = {**machine, "PATH": f"{machine['PATH']}:{PLAIN['PATH']}", "CC": compiler}
+        self.assertEqual(run(INSTALL, self.prefix, env=given)[0], 0)
+        self.assertEqual(set(self.installed()), LIBRARY_FILES)
+        self.assertIn("[libc.so]", run("readelf", "-d", self.prefix / "lib/libliteral_search.so.0")[1])
+        self.assert_linked(compiler=compiler, ldd=ldd)
 
     def test_what_is_wrong(self):
         (self.given / "litfind").unlink()
         status, said = run(INSTALL, "--from", self.given, self.prefix)
         self.assertEqual((status, said), (1, f"install: {self.given}/litfind is not there\n"))
         self.assertFalse(self.prefix.exists())
-        for words in (["--from"], ["--prefix=usr"], [self.prefix, self.prefix]):
+        for folder in ("", "/", "/usr/lib", "../lib", "lib/../..", f"{self.prefix}/"):
+            status, said = run(INSTALL, "--from", self.given, "--libdir", folder, self.prefix)
+            why = f"--libdir needs a folder below {self.prefix}, such as lib64"
+            self.assertEqual((status, said), (2, f"install: {why}\n"), folder)
+        self.assertFalse(self.prefix.exists())
+        for words in (["--from"], ["--libdir"], ["--prefix=usr"], [self.prefix, self.prefix]):
             status, said = run(INSTALL, *words, env=self.path_of(*TOOLS))
             self.assertEqual(status, 2)
             self.assertRegex(said, r"\Ainstall: usage: .*\n\Z")
@@ -213,6 +300,7 @@ class Version(unittest.TestCase):
             SCAN: f'"litscan {version}\\n"', FIND: f'"litfind {version}\\n"', PAGE: f'"litscan {version}"',
             TOP / "bindings/rust/Cargo.toml": f'+literal-search.{version}"\n',
             TOP / "bindings/rust/Cargo.lock": f'+literal-search.{version}"\n',
+            TOP / "bindings/c/literal_search-config-version.cmake": f"(PACKAGE_VERSION {version})\n",
         }.items():
             self.assertIn(wanted, read(path), path)
         self.assertEqual(re.search(r"^## (\S+)", read(TOP / "CHANGELOG.md"), re.M)[1], version)
