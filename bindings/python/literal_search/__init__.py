@@ -40,6 +40,10 @@ if TYPE_CHECKING:
 
 __all__ = ["Kind", "Match", "Search", "__version__"]
 
+# A `repr` is a call if it has at most so many patterns, and these so many characters. Else it has the first patterns, each
+# cut after so many.
+_SHOWN, _LINE, _CUT = 8, 120, 20
+
 _Any = TypeVar("_Any", bound="Search[Any]")
 _Case = Union[bool, Literal["ascii"]]
 _Strs = Union[Iterable[Optional[str]], Column]
@@ -67,11 +71,14 @@ class Search(_native.Prepared[AnyStr]):
     A pickle by protocol 5 has the prepared search too, out of band if a `buffer_callback` is given. The same version of
     the package then builds nothing. A pickle by an earlier protocol has the patterns alone.
 
+    A searcher is a collection of its patterns: it has a length, is iterated in their order, and `word in searcher` asks
+    for a pattern as it was given, also if case is ignored. Without patterns it counts as false.
+
     A searcher never changes, so threads may share one. While the library searches a long text, Python's other threads
     run, and signals are handled. Until a call returns, its text can be neither resized nor closed, and no other thread
     may write to it.
 
-    Raises ValueError if a pattern is empty or has a lone surrogate, MemoryError, and OverflowError if the table of the
+    Raises ValueError if a pattern is empty, with its index, or has a lone surrogate, MemoryError, and OverflowError if the table of the
     search would have 2^31 entries or more. Raises TypeError for a set with Kind.LEFTMOST_FIRST: the order of the
     patterns decides what is found, and a set has no order. Each call raises TypeError for an argument that is no text
     or of the other type, and BufferError for a view with gaps or an array of objects. A lone surrogate in a text of type
@@ -91,6 +98,10 @@ class Search(_native.Prepared[AnyStr]):
     1
     >>> [(it.group(), it.value) for it in Search({"apple": 1, "fig": 5}, ignore_case=True).finditer("Fig, apple")]
     [('Fig', 5), ('apple', 1)]
+    >>> len(words := Search(["maple", "apple"], ignore_case=True)), list(words), "apple" in words, "Apple" in words
+    (2, ['maple', 'apple'], True, False)
+    >>> (spelling := Search({"colour": "color", "grey": "gray"})).sub(spelling.values, "a grey colour")
+    'a gray color'
     >>> Search(["aa", "a"]).find_overlapping("aa")
     [Match(pattern=1, start=0, end=1), Match(pattern=0, start=0, end=2), Match(pattern=1, start=1, end=2)]
     >>> Search(["abcd", "bc"]).find_earliest("abcd")
@@ -103,10 +114,10 @@ class Search(_native.Prepared[AnyStr]):
     ('bonona', 2)
     >>> Search([", ", ";"]).split("a, b;c")
     ['a', 'b', 'c']
-    >>> Search([""])
+    >>> Search(["a", ""])
     Traceback (most recent call last):
     ...
-    ValueError: no search for these patterns: one of them is empty
+    ValueError: no search for these patterns: the one at index 1 is empty
     """
 
     __slots__ = ("__weakref__",)
@@ -147,6 +158,17 @@ class Search(_native.Prepared[AnyStr]):
     def ignore_case(self) -> _Case:
         """Whether case is ignored; "ascii" if only that of A to Z is, though the patterns are str."""
         return "ascii" if self._ascii_case else self._ignore_case
+
+    @property
+    def values(self) -> Tuple[Any, ...]:
+        """The mapping's value for each pattern, in their order; without a mapping the patterns. If the values are of the
+        patterns' type, `sub`, `subn` and `sub_stream` take them as replacements. A column of patterns by `find_columns`
+        is an index for them.
+
+        >>> Search({"apple": 1, "fig": 5}).values
+        (1, 5)
+        """
+        return self.patterns if self._values is None else self._values
 
     @overload
     def finditer_earliest(
@@ -336,7 +358,12 @@ class Search(_native.Prepared[AnyStr]):
     def __repr__(self) -> str:
         name = type(self).__qualname__
         more = ", whole_words=True" if self.whole_words else ""
-        return f"{name}({self._given()!r}, Kind.{self.kind.name}, ignore_case={self.ignore_case!r}{more})"
+        settings = f"Kind.{self.kind.name}, ignore_case={self.ignore_case!r}{more}"
+        short = len(self) <= _SHOWN and sum(map(len, self.patterns)) <= _LINE
+        given = repr(self._given()) if short else ""
+        if short and len(given) <= _LINE and len(given.splitlines()) == 1:
+            return f"{name}({given}, {settings})"
+        return f"<{name} of {len(self)} pattern{'s' * (len(self) != 1)}: {_first(self)}; {settings}>"
 
     def __reduce__(self) -> Tuple[Any, ...]:
         # (the __init__ of a subclass may take something else)
@@ -401,6 +428,14 @@ def _one_after_another(matches: Iterator[Match[Any]]) -> Iterator[Match[Any]]:
 def _are_str(searcher: "Search[Any]") -> bool:
     """Whether the patterns are str: they are all of one type."""
     return isinstance(next(iter(searcher.patterns), None), str)
+
+
+def _first(searcher: "Search[Any]") -> str:
+    """The first patterns, on one line: three, and of each the first characters."""
+    kind: Any = str if _are_str(searcher) else bytes  # (by no method of a subclass)
+    parts = [kind.__getitem__(it, slice(_CUT + 1)) for it in searcher.patterns[:3]]
+    shown = [repr(it) if len(it) <= _CUT else f"{it[:_CUT]!r}..." for it in parts]
+    return ", ".join(shown + ["..."] * (len(searcher) > len(shown)))
 
 
 def _state(searcher: "Search[Any]") -> Any:

@@ -10,6 +10,7 @@
 
 #include "_column.h"
 #include "_match.h"
+#include "_patterns.h"
 #include "_prepared.h"
 #include "_replace.h"
 #include "_text.h"
@@ -380,8 +381,9 @@ static PyObject *text_replaced(Prepared *self, PyObject *const *given, Py_ssize_
 
 PyDoc_STRVAR(sub_doc, "sub($self, /, replacement, text, count=0)\n--\n\n"
 "The text with each match replaced: by the replacement, by the item of a list at the pattern's number, or by the\n"
-"result of a function of the match. If `count` is not 0, at most `count` matches are replaced, from the left. If a function\n"
-"changes the text meanwhile, the answer is the same.");
+"result of a function of the match. By `values` of the searcher of a mapping, each is replaced by its value. If `count`\n"
+"is not 0, at most `count` matches are replaced, from the left. If a function changes the text meanwhile, the answer is\n"
+"the same.");
 
 static PyObject *search_sub(PyObject *self, PyObject *const *given, Py_ssize_t count, PyObject *names) {
     size_t done;
@@ -544,33 +546,6 @@ static PyObject *checked(PyObject *kept, const Prepared *self) {
     return Py_NewRef(kept);
 }
 
-/* Whether this is a tuple of so many. */
-static bool has_one_each(PyObject *of, size_t count) {
-    return PyTuple_Check(of) && (size_t)PyTuple_GET_SIZE(of) == count;
-}
-
-/* The patterns as a tuple of str, or of bytes of no subclass. */
-static PyObject *patterns_of(PyObject *given) {
-    PyObject *many = PySequence_Tuple(given);
-    Py_ssize_t count = many ? PyTuple_GET_SIZE(many) : 0, strs = 0;
-    PyObject *patterns = many ? PyTuple_New(count) : NULL;
-    for (Py_ssize_t i = 0; patterns && i < count; i++) {
-        PyObject *it = PyTuple_GET_ITEM(many, i);
-        PyObject *pattern = PyUnicode_Check(it) ? Py_NewRef(it) : plain_bytes(it, "a pattern");
-        strs += PyUnicode_Check(it);
-        if (pattern)
-            PyTuple_SET_ITEM(patterns, i, pattern);
-        else
-            Py_CLEAR(patterns);
-    }
-    Py_XDECREF(many);
-    if (patterns && strs > 0 && strs < count) {
-        Py_CLEAR(patterns);
-        PyErr_SetString(PyExc_TypeError, "the patterns are partly str and partly bytes");
-    }
-    return patterns;
-}
-
 PyDoc_STRVAR(prepare_doc, "_prepare($self, patterns, kind, ignore_case, ascii_case, whole_words, kept, values, /)\n--\n"
 "\nSets the patterns, str or what lends bytes. `kept` is `_prepared` of a searcher for the same patterns, or None.\n"
 "`values` has a mapping's value for each pattern, or is None.");
@@ -627,10 +602,10 @@ PyDoc_STRVAR(sizeof_doc, "__sizeof__($self, /)\n--\n\n"
 
 static PyObject *search_sizeof(PyObject *of, PyObject *unused) {
     const Prepared *self = (Prepared *)of;
-    PyObject *const parts[3] = {of, self->prepared, self->for_all};
+    PyObject *const parts[4] = {of, self->prepared, self->for_all, self->set};
     size_t size = self->pieces.len + self->pieces.count * sizeof(size_t);
     (void)unused;
-    for (int i = 0; i < 3 && !PyErr_Occurred(); i++) {
+    for (int i = 0; i < 4 && !PyErr_Occurred(); i++) {
         PyObject *type = (PyObject *)&PyBaseObject_Type;
         PyObject *len = parts[i] ? PyObject_CallMethod(type, "__sizeof__", "O", parts[i]) : NULL;
         size += len ? PyLong_AsSize_t(len) : 0;
@@ -668,6 +643,7 @@ static int search_traverse(PyObject *of, visitproc visit, void *arg) {
     Py_VISIT(Py_TYPE(of));
     Py_VISIT(((Prepared *)of)->patterns);
     Py_VISIT(((Prepared *)of)->values);
+    Py_VISIT(((Prepared *)of)->set);
     return 0;
 }
 
@@ -679,6 +655,7 @@ static void search_dealloc(PyObject *of) {
     Py_XDECREF(self->values);
     Py_XDECREF(self->prepared);
     Py_XDECREF(self->for_all);
+    Py_XDECREF(self->set);
     free_pieces(&self->pieces);
     PyObject_GC_Del(of);
     Py_DECREF(type);
@@ -728,6 +705,9 @@ static PyType_Slot search_slots[] = {
     {Py_tp_traverse, search_traverse},
     {Py_tp_methods, search_methods},
     {Py_tp_members, search_members},
+    {Py_tp_iter, search_iter},
+    {Py_sq_length, search_length},
+    {Py_sq_contains, search_contains},
     {0},
 };
 

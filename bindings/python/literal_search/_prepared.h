@@ -23,9 +23,11 @@ typedef struct {
     Pieces pieces;      /* the patterns */
     PyObject *prepared; /* the array of the library, as bytes */
     PyObject *for_all;  /* the one for all that occurs, once it was asked for */
+    PyObject *set;      /* the patterns as a set, once it was asked for */
     int kind;
     char ignore_case, whole_words, ascii_case; /* (only the case of A to Z, in a str too) */
     bool leads_on; /* whether a pattern or a value may lead back to what holds it */
+    bool values_replace; /* whether each value was found to be of the patterns' type */
     Takes takes;
 } Prepared;
 
@@ -33,7 +35,7 @@ typedef struct {
 static int refuse(int32_t status) {
     switch (status) {
     case LITERAL_NO_SEARCHER:
-        PyErr_SetString(PyExc_ValueError, "no search for these patterns: one of them is empty");
+        PyErr_SetString(PyExc_ValueError, "no search for these patterns: they are too many");
         break;
     case LITERAL_OUT_OF_MEMORY:
         PyErr_SetString(PyExc_MemoryError, "no memory for a search");
@@ -69,7 +71,7 @@ static const char *bytes_of(PyObject *pattern, Py_ssize_t *len) {
     return bytes;
 }
 
-/* Joins patterns, which are str or bytes. */
+/* Joins patterns, which are str or bytes, and none of them empty. */
 static int join_pieces(Pieces *pieces, PyObject *of) {
     size_t count = (size_t)PyTuple_GET_SIZE(of), at = 0;
     Py_ssize_t len;
@@ -77,6 +79,10 @@ static int join_pieces(Pieces *pieces, PyObject *of) {
     for (size_t i = 0; i < count; i++) {
         if (!bytes_of(PyTuple_GET_ITEM(of, i), &len))
             return -1;
+        if (len == 0) {
+            PyErr_Format(PyExc_ValueError, "no search for these patterns: the one at index %zu is empty", i);
+            return -1;
+        }
         pieces->len += (size_t)len;
     }
     pieces->bytes = PyMem_Malloc(pieces->len);
@@ -157,7 +163,9 @@ static PyObject *prepared_for(const Prepared *self, const Pieces *pieces, bool f
 /* Makes the array for all that occurs, unless there is one: another thread may have made it in the meantime. */
 static int prepare_for_all(Prepared *self) {
     if (self->whole_words) {
-        PyErr_SetString(PyExc_ValueError, "a searcher for whole words finds no occurrences that overlap");
+        PyErr_SetString(PyExc_ValueError,
+                        "a searcher for whole words has no calls for overlapping or earliest occurrences: their search "
+                        "does not look at the characters beside an occurrence");
         return -1;
     }
     PyObject *made = self->for_all ? NULL : prepared_for(self, &self->pieces, true);

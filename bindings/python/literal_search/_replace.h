@@ -134,9 +134,11 @@ static PyObject *of_type(PyObject *replacement, bool is_str) {
     return NULL;
 }
 
-/* What replaces matches: a function, a tuple of as many replacements as there are patterns, or one replacement. */
-static PyObject *replacements(const Prepared *self, PyObject *given, bool is_str) {
-    if (PyCallable_Check(given))
+/* What replaces matches: a function, a tuple of as many replacements as there are patterns, or one replacement. The values
+ * of a mapping are looked at once: a tuple of str, or of bytes, never changes. */
+static PyObject *replacements(Prepared *self, PyObject *given, bool is_str) {
+    bool are_values = given == self->values && PyTuple_CheckExact(given);
+    if (PyCallable_Check(given) || given == self->patterns || (are_values && self->values_replace))
         return Py_NewRef(given);
     if (!PyList_Check(given) && !PyTuple_Check(given))
         return of_type(given, is_str);
@@ -155,6 +157,8 @@ static PyObject *replacements(const Prepared *self, PyObject *given, bool is_str
             Py_CLEAR(taken);
     }
     Py_XDECREF(many);
+    if (taken && are_values)
+        self->values_replace = all_are_exact(given);
     return taken;
 }
 

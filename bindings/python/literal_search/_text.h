@@ -125,6 +125,13 @@ static int hold_str(Text *text, PyObject *of, bool folds) {
     return 0;
 }
 
+/* Whether a searcher has its patterns, or else an error is set. */
+static bool is_ready(Takes takes) {
+    if (takes == NOT_PREPARED)
+        PyErr_SetString(PyExc_RuntimeError, "this searcher has no patterns yet: its __init__ was not called");
+    return takes != NOT_PREPARED;
+}
+
 /* Holds a text, of the type that is taken. */
 static int hold(Text *text, Takes takes, PyObject *of) {
     bool is_str = PyUnicode_Check(of);
@@ -132,9 +139,9 @@ static int hold(Text *text, Takes takes, PyObject *of) {
     text->folded = text->sides = NULL;
     text->is_str = is_str;
     text->is_wide = false;
-    if (takes == NOT_PREPARED)
-        PyErr_SetString(PyExc_RuntimeError, "this searcher has no patterns yet: its __init__ was not called");
-    else if (is_str && takes == TAKES_BYTES)
+    if (!is_ready(takes))
+        return -1;
+    if (is_str && takes == TAKES_BYTES)
         PyErr_SetString(PyExc_TypeError, "the patterns are bytes, and the text is str: encode it, as by text.encode()");
     else if (!is_str && (takes == TAKES_STR || takes == TAKES_FOLDED) && PyObject_CheckBuffer(of))
         refuse_type(of, "the patterns are %s, and the text is %.200U: decode it, as by str(text, 'utf-8')", "str");

@@ -127,6 +127,9 @@ class Copies(unittest.TestCase):
         for call in (empty.find, empty.findall, empty.finditer, empty.count, empty.split, empty.find_overlapping):
             with self.assertRaisesRegex(RuntimeError, "__init__"):
                 call(b"a")
+        for call in (len, iter, list, bool, lambda it: b"a" in it):
+            with self.assertRaisesRegex(RuntimeError, "__init__"):
+                call(empty)
 
 
 class Files(unittest.TestCase):

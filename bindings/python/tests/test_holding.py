@@ -163,6 +163,7 @@ class Leaks(unittest.TestCase):
         calls = [*calls_of(Search(WORDS)), *calls_of(Search(["apple", "ä"]))]
         calls += [*streams_of(Search(WORDS)), *streams_of(Search(["apple", "ä"]))]
         calls.append(lambda it: Search([it, b"b"]).find_overlapping(b"ab"))
+        calls += [Search(["a"]).__contains__, Search([b"a"]).__contains__, lambda it: it in Search([it])]
         texts = [TEXT, bytearray(TEXT * 3), TEXT.decode(), "ä" + TEXT.decode() + "äppleä"]
         texts += [memoryview(TEXT)[::2], "\ud800", 5]
 
@@ -240,6 +241,7 @@ class Iterators(unittest.TestCase):
             gone = [weakref.ref(it) for it in (text, other, searcher)]
             if kind is Text:
                 word.holds = Search([word])
+                self.assertIn(word, word.holds)
                 gone.append(weakref.ref(word.holds))
             del text, other, word, values, searcher
             gc.collect()

@@ -393,6 +393,8 @@ class Overlapping(unittest.TestCase):
         self.assertGreaterEqual(sizes[1] - sizes[0], len(longer._prepared) - len(searcher._prepared) + 2000)
         longer.find_overlapping("")
         self.assertEqual(sys.getsizeof(longer) - sizes[1], sys.getsizeof(longer._for_all))
+        self.assertTrue("ä" in longer and "ab" in searcher)
+        self.assertGreater(sys.getsizeof(searcher), sizes[0] + 100)
         self.assertGreater(sys.getsizeof(Search.__new__(Search)), 0)
 
     def test_is_prepared_once(self):
@@ -495,11 +497,11 @@ class Words(unittest.TestCase):
 
     def test_what_has_no_words(self):
         searcher = Search(["a"], whole_words=True)
-        for call in (searcher.find_overlapping, searcher.count_overlapping, searcher.finditer_overlapping):
-            with self.assertRaisesRegex(ValueError, "whole words"):
+        for call in (searcher.find_overlapping, searcher.count_overlapping, searcher.finditer_overlapping,
+                     searcher.find_earliest, searcher.finditer_earliest):
+            why = "whole words has no calls for overlapping or earliest occurrences: .* characters beside an occurrence"
+            with self.assertRaisesRegex(ValueError, why):
                 call("a")
-        with self.assertRaisesRegex(ValueError, "whole words"):
-            searcher.find_earliest("a")
 
 
 class Replacing(unittest.TestCase):
@@ -589,10 +591,11 @@ class Replacing(unittest.TestCase):
 
 class Refusals(unittest.TestCase):
     def test_empty_patterns(self):
-        for patterns in ([b""], [b"a", b""], [b""] * 129, [""], ["a", ""]):
+        for patterns, index in (([b""], 0), ([b"a", b""], 1), ([b""] * 129, 0), ([""], 0), (["é", "a", "", ""], 2),
+                                ({"a": 1, "": 2}, 1)):
             for kind in Kind:
                 for ignore_case in (False, True):
-                    with self.assertRaisesRegex(ValueError, "one of them is empty"):
+                    with self.assertRaisesRegex(ValueError, f"the one at index {index} is empty"):
                         Search(patterns, kind, ignore_case)
 
     def test_patterns_of_two_types(self):

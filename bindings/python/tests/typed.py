@@ -34,6 +34,10 @@ parts: List[str] = of_str.split("text")
 text: str = of_str.sub(lambda match: match.group() + str(match.start), "text")
 bytes_and_number: Tuple[bytes, int] = of_bytes.subn([b"x", b"y"], b"text", count=1)
 patterns: Tuple[str, ...] = of_str.patterns
+words: List[str] = list(of_str) + [it for it in of_words if it in of_str]
+how_many: int = len(of_bytes)
+again: "Search[bytes]" = Search(of_bytes)
+by_values: str = of_a_mapping.sub(of_a_mapping.values, "text")
 of_str.save(Path("file"))
 loaded: "Search[str]" = Search.load("file")
 loaded_of_bytes: "Search[bytes]" = Search.load("file")
@@ -41,6 +45,8 @@ found: Optional[Match[bytes]] = Search[bytes].load("file").find(b"text")
 without_patterns: "Search[bytes]" = Search([])
 
 of_str = Search[bytes].load("file")  # type: ignore
+byte_words: List[bytes] = list(of_str)  # type: ignore
+of_str[0]  # type: ignore
 of_str.find(b"text")  # type: ignore
 of_bytes.find("text")  # type: ignore
 of_str.findall(5)  # type: ignore
