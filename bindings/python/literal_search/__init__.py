@@ -19,6 +19,7 @@ import struct
 import zlib
 from contextlib import suppress
 from itertools import accumulate, chain
+from mmap import ACCESS_READ, mmap as _Map
 from typing import TYPE_CHECKING, Any, AnyStr, Callable, Iterable, Iterator, List, Literal, Mapping, Optional
 from typing import SupportsIndex, Tuple, Type, TypeVar, Union, cast, overload
 
@@ -50,8 +51,9 @@ _Strs = Union[Iterable[Optional[str]], Column]
 
 # A file of a searcher: these words first, the kind, 1 if case is ignored, 2 more for whole words, and 4 more if only the
 # case of ASCII is, though the patterns are str; whether the patterns are str, their number, their length and the length
-# of the prepared search; then the ends of the patterns, the patterns, the prepared search; and at the end a checksum.
-_HEAD, _MAGIC, _SUM = struct.Struct("=8s6Q"), b"LITERAL2", struct.Struct("=L")
+# of the prepared search; then the prepared search, which can be mapped here, since the head is a multiple of its numbers;
+# the ends of the patterns, and the patterns; and at the end a checksum.
+_HEAD, _MAGIC, _SUM = struct.Struct("=8s6Q"), b"LITERAL3", struct.Struct("=L")
 
 
 class Search(_native.Prepared[AnyStr]):
@@ -325,14 +327,22 @@ class Search(_native.Prepared[AnyStr]):
                 file.write(whole)
 
     @classmethod
-    def load(cls: Type[_Any], path: "StrPath") -> _Any:
+    def load(cls: Type[_Any], path: "StrPath", *, mmap: bool = False) -> _Any:
         """The searcher that `save` wrote into a file, without building its search again. Accidental damage is noticed;
         a forged file may lead to wrong answers, and to nothing worse.
+
+        With `mmap` a regular file is mapped into memory, and the prepared search stays in it: processes that load the
+        file share this memory. It is read once, to be checked. While the searcher exists, the file may be removed or
+        replaced, as by `save`, but not truncated or written to. If it is truncated, a search ends the process by the
+        signal SIGBUS. Other changes between calls lead to wrong answers or ValueError, and to nothing worse; for changes
+        during a call nothing is known.
 
         Raises ValueError if the file is damaged, or from another version or machine.
         """
         with open(path, "rb") as file:
-            read = _read(file.read())
+            status = os.fstat(file.fileno())
+            is_mapped = mmap and stat.S_ISREG(status.st_mode) and status.st_size > 0
+            read = _read(_Map(file.fileno(), 0, access=ACCESS_READ) if is_mapped else file.read())
         if read is None:
             raise ValueError(f"{os.fspath(path)!r} is not a file that Search.save wrote, or it is damaged")
         made = cls.__new__(cls)
@@ -454,7 +464,7 @@ def _written(searcher: "Search[Any]") -> bytes:
     case = searcher.ignore_case
     flags = bool(case) | searcher.whole_words << 1 | (case == "ascii") << 2
     head = _HEAD.pack(_MAGIC, searcher.kind, flags, _are_str(searcher), *lens)
-    return b"".join([head, struct.pack(f"={len(ends)}Q", *ends), *pieces, kept])
+    return b"".join([head, kept, struct.pack(f"={len(ends)}Q", *ends), *pieces])
 
 
 def _replace(name: str, whole: bytes, mode: Optional[int]) -> None:
@@ -473,23 +483,25 @@ def _replace(name: str, whole: bytes, mode: Optional[int]) -> None:
         raise
 
 
-def _read(whole: bytes) -> Optional[Tuple[Tuple[Any, ...], int, bool, bool, bool, bytes, None]]:
-    """The arguments of `_prepare` from a file of a searcher."""
-    summed = memoryview(whole)[: -_SUM.size]
-    if len(whole) < _HEAD.size + _SUM.size or _SUM.pack(zlib.crc32(summed)) != whole[-_SUM.size :]:
+def _read(of: Union[bytes, _Map]) -> Optional[Tuple[Tuple[Any, ...], int, bool, bool, bool, Any, None]]:
+    """The arguments of `_prepare` from a file of a searcher, of which the prepared search stays in a mapped file."""
+    whole = memoryview(of)
+    if len(whole) < _HEAD.size + _SUM.size or _SUM.pack(zlib.crc32(whole[: -_SUM.size])) != whole[-_SUM.size :]:
         return None
     magic, kind, flags, is_str, count, size, prepared = _HEAD.unpack_from(whole)
-    behind_ends = _HEAD.size + 8 * count
-    if magic != _MAGIC or len(whole) != behind_ends + size + prepared + _SUM.size:
+    behind_prepared = _HEAD.size + prepared
+    behind_ends = behind_prepared + 8 * count
+    if magic != _MAGIC or len(whole) != behind_ends + size + _SUM.size:
         return None
     if kind not in {int(it) for it in Kind}:
         return None
-    ends = struct.unpack_from(f"={count}Q", whole, _HEAD.size)
-    buffer = whole[behind_ends : behind_ends + size]
+    ends = struct.unpack_from(f"={count}Q", whole, behind_prepared)
+    buffer = bytes(whole[behind_ends : -_SUM.size])
     pieces = tuple(buffer[start:end] for start, end in zip((0, *ends), ends))
     patterns = tuple(it.decode() for it in pieces) if is_str else pieces
     ignore_case, whole_words, ascii_case = (bool(flags & it) for it in (1, 2, 4))
-    return patterns, kind, ignore_case, ascii_case, whole_words, whole[behind_ends + size : -_SUM.size], None
+    kept = whole[_HEAD.size : behind_prepared]
+    return patterns, kind, ignore_case, ascii_case, whole_words, bytes(kept) if isinstance(of, bytes) else kept, None
 
 
 def _has_objects(view: memoryview) -> bool:

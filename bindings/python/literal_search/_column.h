@@ -139,7 +139,7 @@ static const uint8_t *searched_bytes(const Prepared *self, const uint8_t *bytes,
 static PyObject *found_in(Prepared *self, const Column *column, const uint8_t *text, size_t len, const uint8_t *bytes,
                           bool counts) {
     size_t words_len, count = 0;
-    const uint32_t *words = words_of(self->prepared, &words_len);
+    const uint32_t *words = array_of(self, &words_len);
     literal_match found;
     int32_t status;
     if (counts)
@@ -158,6 +158,8 @@ static PyObject *found_in(Prepared *self, const Column *column, const uint8_t *t
         return PyLong_FromSize_t(count);
     if (status == LITERAL_NONE)
         return Py_NewRef(Py_None);
+    if (is_found(self, &found) < 0)
+        return NULL;
     PyObject *of = object_of(column, text, len), *match = NULL;
     Place place = {0, 0};
     Text held;

@@ -528,22 +528,19 @@ static PyType_Spec matches_spec = {
 
 /* ---- How a searcher begins ---- */
 
-/* An array that was kept, if it is whole, and for the searcher's kind and as many patterns, of which the longest has as
- * many bytes. */
-static PyObject *checked(PyObject *kept, const Prepared *self) {
-    size_t len;
-    const uint32_t *words = words_of(kept, &len);
-    literal_info info = {0};
-    bool is_cut = PyBytes_GET_SIZE(kept) % sizeof(uint32_t) != 0;
-    int32_t status = is_cut ? LITERAL_DAMAGED : literal_check_prepared(words, len);
-    if (status == LITERAL_OK)
-        status = literal_prepared_info(words, len, &info);
-    if (status != LITERAL_OK || info.kind != kind_for(self) || info.patterns != self->pieces.count ||
-        info.longest != self->pieces.longest) {
-        refuse(LITERAL_DAMAGED);
-        return NULL;
-    }
-    return Py_NewRef(kept);
+/* Gives a searcher what was made for it. */
+static void take_over(Prepared *self, const Prepared *new, PyObject *values) {
+    self->patterns = new->patterns;
+    self->values = values == Py_None ? NULL : Py_NewRef(values);
+    self->leads_on = self->values || !all_are_exact(new->patterns);
+    self->pieces = new->pieces;
+    self->prepared = new->prepared;
+    self->mapped = new->mapped;
+    self->kind = new->kind;
+    self->ignore_case = new->ignore_case;
+    self->ascii_case = new->ascii_case;
+    self->whole_words = new->whole_words;
+    self->takes = new->takes;
 }
 
 PyDoc_STRVAR(prepare_doc, "_prepare($self, patterns, kind, ignore_case, ascii_case, whole_words, kept, values, /)\n--\n"
@@ -574,9 +571,12 @@ static PyObject *search_prepare(PyObject *of, PyObject *given) {
         new.takes = TAKES_FOLDED;
         literal_fold(new.pieces.bytes, new.pieces.len);
     }
-    new.prepared = kept == Py_None ? prepared_for(&new, &new.pieces, false) : checked(kept, &new);
+    if (kept == Py_None)
+        new.prepared = prepared_for(&new, &new.pieces, false);
+    else
+        hold_kept(&new, kept);
     if (new.prepared && self->takes != NOT_PREPARED) {
-        Py_CLEAR(new.prepared);
+        drop_prepared(&new);
         PyErr_SetString(PyExc_RuntimeError, "a searcher never changes: make another one");
     }
     if (!new.prepared) {
@@ -584,16 +584,7 @@ static PyObject *search_prepare(PyObject *of, PyObject *given) {
         Py_DECREF(new.patterns);
         return NULL;
     }
-    self->patterns = new.patterns;
-    self->values = values == Py_None ? NULL : Py_NewRef(values);
-    self->leads_on = self->values || !all_are_exact(new.patterns);
-    self->pieces = new.pieces;
-    self->prepared = new.prepared;
-    self->kind = new.kind;
-    self->ignore_case = new.ignore_case;
-    self->ascii_case = new.ascii_case;
-    self->whole_words = new.whole_words;
-    self->takes = new.takes;
+    take_over(self, &new, values);
     Py_RETURN_NONE;
 }
 
@@ -653,7 +644,7 @@ static void search_dealloc(PyObject *of) {
     PyObject_GC_UnTrack(of);
     Py_XDECREF(self->patterns);
     Py_XDECREF(self->values);
-    Py_XDECREF(self->prepared);
+    drop_prepared(self);
     Py_XDECREF(self->for_all);
     Py_XDECREF(self->set);
     free_pieces(&self->pieces);

@@ -47,7 +47,7 @@ class Prepared(Generic[AnyStr]):
     @property
     def _kind(self) -> int: ...
     @property
-    def _prepared(self) -> bytes: ...
+    def _prepared(self) -> Union[bytes, memoryview]: ...
     @property
     def _for_all(self) -> Optional[bytes]: ...
     @property
@@ -152,7 +152,7 @@ class Prepared(Generic[AnyStr]):
         ignore_case: Union[bool, str],
         ascii_case: bool,
         whole_words: bool,
-        kept: Optional[bytes],
+        kept: Union[None, bytes, memoryview],
         values: Optional[Tuple[Any, ...]],
         /,
     ) -> None: ...

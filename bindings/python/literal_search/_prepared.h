@@ -21,7 +21,8 @@ typedef struct {
     PyObject *patterns; /* a tuple */
     PyObject *values;   /* what a mapping gives for each, as a tuple, or NULL without a mapping */
     Pieces pieces;      /* the patterns */
-    PyObject *prepared; /* the array of the library, as bytes */
+    PyObject *prepared; /* the array of the library, as bytes or as a view of a mapped file */
+    Py_buffer mapped;   /* the buffer of that view, or without an object if it is bytes */
     PyObject *for_all;  /* the one for all that occurs, once it was asked for */
     PyObject *set;      /* the patterns as a set, once it was asked for */
     int kind;
@@ -179,6 +180,47 @@ static int prepare_for_all(Prepared *self) {
 static const uint32_t *words_of(PyObject *prepared, size_t *len) {
     *len = (size_t)PyBytes_GET_SIZE(prepared) / sizeof(uint32_t);
     return (const uint32_t *)(const void *)PyBytes_AS_STRING(prepared);
+}
+
+/* The array for matches that do not overlap. */
+static const uint32_t *array_of(const Prepared *self, size_t *len) {
+    if (!self->mapped.obj)
+        return words_of(self->prepared, len);
+    *len = (size_t)self->mapped.len / sizeof(uint32_t);
+    return self->mapped.buf;
+}
+
+static void drop_prepared(Prepared *self) {
+    if (self->mapped.obj)
+        PyBuffer_Release(&self->mapped);
+    Py_CLEAR(self->prepared);
+}
+
+/* Holds an array that was kept, if it is whole, and for the searcher's kind and as many patterns, of which the longest has
+ * as many bytes. */
+static void hold_kept(Prepared *self, PyObject *kept) {
+    size_t len;
+    literal_info info = {0};
+    if (!PyBytes_Check(kept) && PyObject_GetBuffer(kept, &self->mapped, PyBUF_SIMPLE))
+        return;
+    self->prepared = Py_NewRef(kept);
+    const uint32_t *words = array_of(self, &len);
+    Py_ssize_t size = self->mapped.obj ? self->mapped.len : PyBytes_GET_SIZE(kept);
+    bool is_cut = size % sizeof(uint32_t) != 0 || (uintptr_t)words % sizeof(uint32_t) != 0;
+    int32_t status = is_cut ? LITERAL_DAMAGED : literal_check_prepared(words, len);
+    if (status == LITERAL_OK)
+        status = literal_prepared_info(words, len, &info);
+    if (status != LITERAL_OK || info.kind != kind_for(self) || info.patterns != self->pieces.count ||
+        info.longest != self->pieces.longest) {
+        drop_prepared(self);
+        refuse(LITERAL_DAMAGED);
+    }
+}
+
+/* Answers 1 for a match that was found, if its pattern is one of the searcher's. It is, unless the array has changed since
+ * it was checked, as a mapped file may. */
+static int is_found(const Prepared *self, const literal_match *found) {
+    return found->pattern < self->pieces.count ? 1 : refuse(LITERAL_DAMAGED);
 }
 
 /* Whether no pattern can lead on: all are str or bytes, and of no subclass. */

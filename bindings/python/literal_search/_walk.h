@@ -124,10 +124,12 @@ static bool may_keep(const Prepared *search, size_t kept) {
     return kept == 0 || kept < search->pieces.longest;
 }
 
-/* Whether matches lie one after another between two places. It is so, unless the prepared search is damaged. */
-static bool are_in_order(const literal_match *matches, size_t count, size_t at, size_t end) {
+/* Whether matches of a search's patterns lie one after another between two places. It is so, unless the prepared search is
+ * damaged. */
+static bool are_in_order(const Prepared *search, const literal_match *matches, size_t count, size_t at, size_t end) {
     for (size_t i = 0; i < count; i++) {
-        if (matches[i].start < at || matches[i].end <= matches[i].start || matches[i].end > end)
+        if (matches[i].start < at || matches[i].end <= matches[i].start || matches[i].end > end ||
+            matches[i].pattern >= search->pieces.count)
             return false;
         at = matches[i].end;
     }
@@ -139,7 +141,7 @@ static bool are_in_order(const literal_match *matches, size_t count, size_t at, 
 /* Finds the first match between two places: 1, or 0 if there is none, or -1 with an error. */
 static int find_first(const Prepared *search, const Text *text, size_t at, size_t end, literal_match *found) {
     size_t words_len;
-    const uint32_t *words = words_of(search->prepared, &words_len);
+    const uint32_t *words = array_of(search, &words_len);
     for (;;) {
         size_t piece_end = end_of_piece(search, at, end);
         PyThreadState *state = let_others_run(piece_end - at);
@@ -147,7 +149,7 @@ static int find_first(const Prepared *search, const Text *text, size_t at, size_
                                                 &at);
         come_back(state);
         if (status == LITERAL_OK)
-            return 1;
+            return is_found(search, found);
         if (status != LITERAL_NONE || !may_keep(search, piece_end - at))
             return refuse(status == LITERAL_NONE ? LITERAL_DAMAGED : status);
         if (piece_end == end)
@@ -161,7 +163,7 @@ static int find_first(const Prepared *search, const Text *text, size_t at, size_
  * what is next to a word counts. If sides are to be made, the first pieces are short, so that few are. */
 static int find_first_word(const Prepared *search, Text *text, size_t at, size_t end, literal_match *found) {
     size_t words_len, piece_end, len = first_len(search);
-    const uint32_t *words = words_of(search->prepared, &words_len);
+    const uint32_t *words = array_of(search, &words_len);
     if (text->sides && len > SHORT)
         len = SHORT > least_len(search) ? SHORT : least_len(search);
     while (at < end) {
@@ -179,7 +181,7 @@ static int find_first_word(const Prepared *search, Text *text, size_t at, size_t
         if (status != LITERAL_OK && status != LITERAL_NONE)
             return refuse(status);
         if (status == LITERAL_OK && found->start < cut)
-            return 1;
+            return is_found(search, found);
         if (PyErr_CheckSignals())
             return -1;
         at = cut;
@@ -287,7 +289,7 @@ static void take_matches(Walk *walk, size_t count, size_t at, bool is_done) {
 static int take_words(Walk *walk, const literal_page *page, size_t cut, size_t piece_end) {
     size_t count = page->written, at = walk->at, known;
     if (count > walk->room || (count == 0 && !page->is_last) ||
-        !are_in_order(walk->matches, count, at, piece_end))
+        !are_in_order(walk->search, walk->matches, count, at, piece_end))
         return refuse(LITERAL_DAMAGED);
     while (count > 0 && walk->matches[count - 1].start >= cut)
         count--;
@@ -305,7 +307,7 @@ static int take_words(Walk *walk, const literal_page *page, size_t cut, size_t p
 static int words_of_piece(Walk *walk) {
     size_t words_len, piece_end;
     size_t cut = cut_piece(walk->search, walk->len, walk->at, walk->end, &piece_end);
-    const uint32_t *words = words_of(walk->search->prepared, &words_len);
+    const uint32_t *words = array_of(walk->search, &words_len);
     Text *text = &walk->text;
     literal_page page;
     if (learn_sides(text, piece_end))
@@ -325,7 +327,7 @@ static int words_of_piece(Walk *walk) {
 /* Finds the matches of the next piece that stand whatever follows it, as many as there is room for, in one call. */
 static int matches_of_piece(Walk *walk) {
     size_t words_len, piece_end = end_of_piece(walk->search, walk->at, walk->end);
-    const uint32_t *words = words_of(walk->search->prepared, &words_len);
+    const uint32_t *words = array_of(walk->search, &words_len);
     bool more = walk->more || piece_end < walk->end;
     literal_page page;
     PyThreadState *state = let_others_run(piece_end - walk->at);
@@ -334,7 +336,7 @@ static int matches_of_piece(Walk *walk) {
     come_back(state);
     if (status != LITERAL_OK)
         return refuse(status);
-    if (!are_in_order(walk->matches, page.written, walk->at, page.next) ||
+    if (!are_in_order(walk->search, walk->matches, page.written, walk->at, page.next) ||
         (page.is_last && !may_keep(walk->search, piece_end - page.next)))
         return refuse(LITERAL_DAMAGED);
     take_matches(walk, page.written, page.next, page.is_last && piece_end == walk->end);
@@ -356,7 +358,7 @@ static bool is_countable(const Walk *walk) {
 /* Counts the matches of the next piece. */
 static int count_matches(Walk *walk, size_t *count) {
     size_t words_len, found = 0, end = end_of_piece(walk->search, walk->at, walk->end);
-    const uint32_t *words = words_of(walk->search->prepared, &words_len);
+    const uint32_t *words = array_of(walk->search, &words_len);
     Text *text = &walk->text;
     int32_t status;
     if (learn_sides(text, end))

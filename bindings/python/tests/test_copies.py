@@ -175,7 +175,7 @@ class Files(unittest.TestCase):
         another kind."""
         searcher = Search([b"ab"])
         whole = literal_search._written(searcher)
-        places = len(whole) - 1, len(whole) - len(searcher._prepared)
+        places = literal_search._HEAD.size, literal_search._HEAD.size + len(searcher._prepared) - 1
         files = [whole[:at] + bytes([whole[at] ^ 1]) + whole[at + 1 :] for at in places]
         for other in (Search([b"ab", b"cd"]), Search([b"abc"]), Search([b"ab"], LONGEST)):
             given = {"patterns": (b"ab",), "kind": FIRST, "ignore_case": False, "whole_words": False}

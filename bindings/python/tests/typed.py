@@ -41,12 +41,14 @@ by_values: str = of_a_mapping.sub(of_a_mapping.values, "text")
 of_str.save(Path("file"))
 loaded: "Search[str]" = Search.load("file")
 loaded_of_bytes: "Search[bytes]" = Search.load("file")
+mapped: "Search[str]" = Search.load(Path("file"), mmap=True)
 found: Optional[Match[bytes]] = Search[bytes].load("file").find(b"text")
 without_patterns: "Search[bytes]" = Search([])
 
 of_str = Search[bytes].load("file")  # type: ignore
 byte_words: List[bytes] = list(of_str)  # type: ignore
 of_str[0]  # type: ignore
+Search.load("file", True)  # type: ignore
 of_str.find(b"text")  # type: ignore
 of_bytes.find("text")  # type: ignore
 of_str.findall(5)  # type: ignore
