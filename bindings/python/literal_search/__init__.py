@@ -41,8 +41,8 @@ if TYPE_CHECKING:
 
 __all__ = ["Kind", "Match", "Search", "__version__"]
 
-# A `repr` is a call if it has at most so many patterns, and these so many characters. Else it has the first patterns, each
-# cut after so many.
+# A `repr` is a call if there are at most _SHOWN patterns, of at most _LINE characters. Otherwise it has the first
+# patterns, each cut after _CUT characters.
 _SHOWN, _LINE, _CUT = 8, 120, 20
 
 _Any = TypeVar("_Any", bound="Search[Any]")
@@ -51,8 +51,8 @@ _Strs = Union[Iterable[Optional[str]], Column]
 
 # A file of a searcher: these words first, the kind, 1 if case is ignored, 2 more for whole words, and 4 more if only the
 # case of ASCII is, though the patterns are str; whether the patterns are str, their number, their length and the length
-# of the prepared search; then the prepared search, which can be mapped here, since the head is a multiple of its numbers;
-# the ends of the patterns, and the patterns; and at the end a checksum.
+# of the prepared search; then the prepared search, which is aligned for its numbers if the file is mapped; the ends of
+# the patterns, and the patterns; and at the end a checksum.
 _HEAD, _MAGIC, _SUM = struct.Struct("=8s6Q"), b"LITERAL3", struct.Struct("=L")
 
 
@@ -80,11 +80,11 @@ class Search(_native.Prepared[AnyStr]):
     run, and signals are handled. Until a call returns, its text can be neither resized nor closed, and no other thread
     may write to it.
 
-    Raises ValueError if a pattern is empty, with its index, or has a lone surrogate, MemoryError, and OverflowError if the table of the
-    search would have 2^31 entries or more. Raises TypeError for a set with Kind.LEFTMOST_FIRST: the order of the
-    patterns decides what is found, and a set has no order. Each call raises TypeError for an argument that is no text
-    or of the other type, and BufferError for a view with gaps or an array of objects. A lone surrogate in a text of type
-    str, as in some file names, is accepted; it matches no pattern.
+    Raises ValueError if a pattern is empty, with its index, or has a lone surrogate, MemoryError, and OverflowError if
+    the table of the search would have 2^31 entries or more. Raises TypeError for a set with Kind.LEFTMOST_FIRST: the
+    order of the patterns decides what is found, and a set has no order. Each call raises TypeError for an argument that
+    is no text or of the other type, and BufferError for a view with gaps or an array of objects. A lone surrogate in a
+    text of type str, as in some file names, is accepted; it matches no pattern.
 
     >>> Search([b"ab", b"abcd"], Kind.LEFTMOST_LONGEST).find(b"xabcd")
     Match(pattern=1, start=1, end=5)
@@ -163,9 +163,9 @@ class Search(_native.Prepared[AnyStr]):
 
     @property
     def values(self) -> Tuple[Any, ...]:
-        """The mapping's value for each pattern, in their order; without a mapping the patterns. If the values are of the
-        patterns' type, `sub`, `subn` and `sub_stream` take them as replacements. A column of patterns by `find_columns`
-        is an index for them.
+        """The mapping's value for each pattern, in the order of the patterns; without a mapping the patterns. If all
+        values have the patterns' type, `sub`, `subn` and `sub_stream` accept them as replacements. The patterns that
+        `find_columns` returns are indexes of this tuple.
 
         >>> Search({"apple": 1, "fig": 5}).values
         (1, 5)
@@ -331,11 +331,11 @@ class Search(_native.Prepared[AnyStr]):
         """The searcher that `save` wrote into a file, without building its search again. Accidental damage is noticed;
         a forged file may lead to wrong answers, and to nothing worse.
 
-        With `mmap` a regular file is mapped into memory, and the prepared search stays in it: processes that load the
-        file share this memory. It is read once, to be checked. While the searcher exists, the file may be removed or
-        replaced, as by `save`, but not truncated or written to. If it is truncated, a search ends the process by the
-        signal SIGBUS. Other changes between calls lead to wrong answers or ValueError, and to nothing worse; for changes
-        during a call nothing is known.
+        With `mmap` a regular file is mapped into memory instead of read, and processes that map it share the memory of
+        the prepared search. While the searcher exists, the file may be removed or replaced, as `save` does, but not
+        truncated or written to. If it is truncated, the next search may end the process by the signal SIGBUS. Other
+        changes between calls lead to wrong answers or ValueError, and to nothing worse; nothing is promised for changes
+        during a call.
 
         Raises ValueError if the file is damaged, or from another version or machine.
         """

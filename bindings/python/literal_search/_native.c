@@ -381,9 +381,8 @@ static PyObject *text_replaced(Prepared *self, PyObject *const *given, Py_ssize_
 
 PyDoc_STRVAR(sub_doc, "sub($self, /, replacement, text, count=0)\n--\n\n"
 "The text with each match replaced: by the replacement, by the item of a list at the pattern's number, or by the\n"
-"result of a function of the match. By `values` of the searcher of a mapping, each is replaced by its value. If `count`\n"
-"is not 0, at most `count` matches are replaced, from the left. If a function changes the text meanwhile, the answer is\n"
-"the same.");
+"result of a function of the match. The searcher's `values` replace each match by its value. If `count` is not 0, at\n"
+"most `count` matches are replaced, from the left. If a function changes the text meanwhile, the answer is the same.");
 
 static PyObject *search_sub(PyObject *self, PyObject *const *given, Py_ssize_t count, PyObject *names) {
     size_t done;

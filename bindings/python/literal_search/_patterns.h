@@ -1,4 +1,4 @@
-/* The patterns of a searcher: how they are given, and a searcher as a collection of them. Included once, by _native.c. */
+/* The patterns of a searcher, and a searcher as a collection of them. Included once, by _native.c. */
 #ifndef LITERAL_SEARCH_PATTERNS_H
 #define LITERAL_SEARCH_PATTERNS_H
 
@@ -47,19 +47,22 @@ static PyObject *search_iter(PyObject *of) {
     return is_ready(self->takes) ? PyObject_GetIter(self->patterns) : NULL;
 }
 
-/* The patterns as a set, which is made at the first question. Another thread may have made it in the meantime, since
- * methods of a subclass of str may run. */
+/* The set of the patterns, which is built when it is first needed. While it is built, methods of a subclass of str may
+ * run, so another thread may have built it too. */
 static PyObject *set_of(Prepared *self) {
-    PyObject *made = self->set ? NULL : PyFrozenSet_New(self->patterns);
+    PyObject *made;
+    if (self->set)
+        return self->set;
+    made = PyFrozenSet_New(self->patterns);
     if (made && self->set)
         Py_DECREF(made);
     else if (made)
         self->set = made;
-    return self->set;
+    return made ? self->set : NULL;
 }
 
-/* Whether an object is one of the patterns. One that cannot be a pattern of this searcher is not compared with them: a
- * comparison of str with bytes may be an error. */
+/* Whether an object is one of the patterns. An object of another type is not compared with them: with Python's option -bb
+ * comparing str with bytes is an error. */
 static int search_contains(PyObject *of, PyObject *word) {
     Prepared *self = (Prepared *)of;
     if (!is_ready(self->takes))

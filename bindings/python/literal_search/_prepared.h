@@ -36,7 +36,7 @@ typedef struct {
 static int refuse(int32_t status) {
     switch (status) {
     case LITERAL_NO_SEARCHER:
-        PyErr_SetString(PyExc_ValueError, "no search for these patterns: they are too many");
+        PyErr_SetString(PyExc_ValueError, "no search for these patterns: there are too many");
         break;
     case LITERAL_OUT_OF_MEMORY:
         PyErr_SetString(PyExc_MemoryError, "no memory for a search");
@@ -72,7 +72,7 @@ static const char *bytes_of(PyObject *pattern, Py_ssize_t *len) {
     return bytes;
 }
 
-/* Joins patterns, which are str or bytes, and none of them empty. */
+/* Joins patterns, which are str or bytes. None may be empty. */
 static int join_pieces(Pieces *pieces, PyObject *of) {
     size_t count = (size_t)PyTuple_GET_SIZE(of), at = 0;
     Py_ssize_t len;
@@ -196,8 +196,8 @@ static void drop_prepared(Prepared *self) {
     Py_CLEAR(self->prepared);
 }
 
-/* Holds an array that was kept, if it is whole, and for the searcher's kind and as many patterns, of which the longest has
- * as many bytes. */
+/* Takes an array that was kept, if it is whole, and for the searcher's kind and as many patterns, of which the longest
+ * has as many bytes. */
 static void hold_kept(Prepared *self, PyObject *kept) {
     size_t len;
     literal_info info = {0};
@@ -217,8 +217,8 @@ static void hold_kept(Prepared *self, PyObject *kept) {
     }
 }
 
-/* Answers 1 for a match that was found, if its pattern is one of the searcher's. It is, unless the array has changed since
- * it was checked, as a mapped file may. */
+/* Returns 1 for a match of one of the searcher's patterns. Other matches are refused: they come only from an array that
+ * was changed after it was checked, in a mapped file. */
 static int is_found(const Prepared *self, const literal_match *found) {
     return found->pattern < self->pieces.count ? 1 : refuse(LITERAL_DAMAGED);
 }

@@ -134,8 +134,8 @@ static PyObject *of_type(PyObject *replacement, bool is_str) {
     return NULL;
 }
 
-/* What replaces matches: a function, a tuple of as many replacements as there are patterns, or one replacement. The values
- * of a mapping are looked at once: a tuple of str, or of bytes, never changes. */
+/* What replaces matches: a function, a tuple of as many replacements as there are patterns, or one replacement. The
+ * types of a mapping's values are checked only once if all are str or bytes, which never change. */
 static PyObject *replacements(Prepared *self, PyObject *given, bool is_str) {
     bool are_values = given == self->values && PyTuple_CheckExact(given);
     if (PyCallable_Check(given) || given == self->patterns || (are_values && self->values_replace))

@@ -124,8 +124,8 @@ static bool may_keep(const Prepared *search, size_t kept) {
     return kept == 0 || kept < search->pieces.longest;
 }
 
-/* Whether matches of a search's patterns lie one after another between two places. It is so, unless the prepared search is
- * damaged. */
+/* Whether matches lie one after another between two places, and are of the searcher's patterns. It is so, unless the
+ * prepared search is damaged. */
 static bool are_in_order(const Prepared *search, const literal_match *matches, size_t count, size_t at, size_t end) {
     for (size_t i = 0; i < count; i++) {
         if (matches[i].start < at || matches[i].end <= matches[i].start || matches[i].end > end ||

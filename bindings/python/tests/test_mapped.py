@@ -91,7 +91,8 @@ class Mapped(unittest.TestCase):
     def test_damaged(self):
         Search(WORDS).save(self.path)
         whole, before = self.path.read_bytes(), self.places()
-        parts = [b"", whole[:10], whole[:-1], whole + b"a", *(whole[:at] + b"\xaa" + whole[at + 1 :] for at in (0, AT, 200))]
+        parts = [b"", whole[:10], whole[:-1], whole + b"a"]
+        parts += [whole[:at] + b"\xaa" + whole[at + 1 :] for at in (0, AT, 200)]
         for part in parts:
             self.path.write_bytes(part)
             with self.assertRaisesRegex(ValueError, "a file' is not a file that Search.save wrote, or it is damaged"):
