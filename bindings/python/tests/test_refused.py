@@ -91,6 +91,15 @@ class EachRequest(unittest.TestCase):
         for words in (["a", "bc"], ["é", Name("ab")], [b"a", memoryview(b"bc")], ["x" * 700]):
             held = [it for it in words if len(it) > 1]  # (Python shares the others)
             self.check(lambda: Search.__new__(Search)._prepare(words, 0, True, False, False, None, None), held)
+            kept = memoryview(Search(words, ignore_case=True)._prepared)
+            self.check(lambda: Search.__new__(Search)._prepare(words, 0, True, False, False, kept, None), [*held, kept])
+
+            def is_in():
+                searcher = Search.__new__(Search)
+                searcher._prepare(words, 0, True, False, False, None, None)
+                return words[-1] in searcher, len(searcher), [*searcher] == list(words)
+
+            self.check(is_in, held)
 
 
 class Refused(unittest.TestCase):
