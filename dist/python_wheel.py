@@ -7,6 +7,7 @@ import configparser
 import hashlib
 import re
 import zipfile
+from functools import cache
 from pathlib import Path
 
 DIST = Path(__file__).resolve().parent
@@ -15,10 +16,19 @@ TOP = DIST.parent
 FOLDERS = {"x86_64": DIST, "aarch64": DIST / "aarch64-linux-gnu"}
 FOLDER, HEADER, LICENCES = TOP / "bindings/python", TOP / "bindings/c/literal_search.h", ("LICENSE-MIT", "UNLICENSE")
 PACKAGE = FOLDER / "literal_search"
-VERSION = re.search(r'LITERAL_VERSION "(.*)"', HEADER.read_text("utf-8"))[1]
 OLDEST, GLIBC = (3, 11), 34  # the version of the limited API, and the second number of glibc's version
-INFO, EXTENSION = f"literal_search-{VERSION}.dist-info", "literal_search/_native.abi3.so"
-ORIGIN, RECORD = f"{INFO}/BUILT_FROM", f"{INFO}/RECORD"
+EXTENSION = "literal_search/_native.abi3.so"
+
+
+@cache
+def version():
+    """The package's version."""
+    return re.search(r'LITERAL_VERSION "(.*)"', HEADER.read_text("utf-8"))[1]
+
+
+def about(file):
+    """The path in a wheel of a file on the package."""
+    return f"literal_search-{version()}.dist-info/{file}"
 
 
 def tag(processor):
@@ -28,7 +38,7 @@ def tag(processor):
 
 def path_of(processor):
     """Where the wheel is."""
-    return FOLDERS[processor] / f"literal_search-{VERSION}-{tag(processor)}.whl"
+    return FOLDERS[processor] / f"literal_search-{version()}-{tag(processor)}.whl"
 
 
 def library_for(processor):
@@ -48,7 +58,7 @@ def digest(processor):
 def origin_of(wheel):
     """What a wheel's BUILT_FROM says, by the first word of each line."""
     with zipfile.ZipFile(wheel) as file:
-        return dict(it.split(" ", 1) for it in file.read(ORIGIN).decode("ascii").splitlines())
+        return dict(it.split(" ", 1) for it in file.read(about("BUILT_FROM")).decode("ascii").splitlines())
 
 
 def is_current(processor):
@@ -61,10 +71,10 @@ def metadata():
     """What the package says of itself, from setup.cfg."""
     read = configparser.ConfigParser()
     read.read(FOLDER / "setup.cfg", "utf-8")
-    about = read["metadata"]
-    lines = ["Metadata-Version: 2.1", f"Name: {about['name']}", f"Version: {VERSION}",
-             f"Summary: {about['description']}", f"License: {about['license']}"]
-    lines += [f"Classifier: {it}" for it in about["classifiers"].split("\n") if it]
+    given = read["metadata"]
+    lines = ["Metadata-Version: 2.1", f"Name: {given['name']}", f"Version: {version()}",
+             f"Summary: {given['description']}", f"License: {given['license']}"]
+    lines += [f"Classifier: {it}" for it in given["classifiers"].split("\n") if it]
     lines += [f"Requires-Python: >={OLDEST[0]}.{OLDEST[1]}", "Description-Content-Type: text/markdown"]
     lines += [f"License-File: {it}" for it in LICENCES]
     return "\n".join(lines) + "\n\n" + (FOLDER / "README.md").read_text("utf-8")
@@ -75,11 +85,11 @@ def files_of(processor, extension, origin):
     files = {f"literal_search/{it.name}": it.read_bytes() for it in sorted(PACKAGE.iterdir())
              if it.suffix in (".py", ".pyi", ".typed")}
     files[EXTENSION] = extension
-    files.update({f"{INFO}/{it}": (TOP / it).read_bytes() for it in LICENCES})
-    files[f"{INFO}/METADATA"] = metadata().encode()
+    files.update({about(it): (TOP / it).read_bytes() for it in LICENCES})
+    files[about("METADATA")] = metadata().encode()
     lines = ["Wheel-Version: 1.0", "Generator: dist/build", "Root-Is-Purelib: false", f"Tag: {tag(processor)}"]
-    files[f"{INFO}/WHEEL"] = "".join(f"{it}\n" for it in lines).encode()
-    files[ORIGIN] = "".join(f"{name} {value}\n" for name, value in origin.items()).encode("ascii")
+    files[about("WHEEL")] = "".join(f"{it}\n" for it in lines).encode()
+    files[about("BUILT_FROM")] = "".join(f"{name} {value}\n" for name, value in origin.items()).encode("ascii")
     return files
 
 
@@ -90,7 +100,8 @@ def write(path, processor, extension, origin):
     for name, content in files.items():
         hashed = base64.urlsafe_b64encode(hashlib.sha256(content).digest()).decode().rstrip("=")
         rows.append(f"{name},sha256={hashed},{len(content)}\n")
-    files[RECORD] = "".join([*rows, f"{RECORD},,\n"]).encode()
+    record = about("RECORD")
+    files[record] = "".join([*rows, f"{record},,\n"]).encode()
     with zipfile.ZipFile(path, "w", zipfile.ZIP_STORED) as file:
         for name, content in files.items():
             entry = zipfile.ZipInfo(name, (1980, 1, 1, 0, 0, 0))
