@@ -1,4 +1,5 @@
-//! A short pattern, with which a list compares the haystack at candidates.
+//! The searches by a single pattern of at most 16 bytes. The haystack is compared with it at candidates, or everywhere
+//! if it is one byte.
 ghost use Rattle.std.specs.Prelude.{◌≡◌, ◌+◌, ◌-◌, ◌*◌, ◌≤◌, IfOk, IfSome, MatchOption};
 ghost use Rattle.std.specs.Result.{IsOkAnd};
 ghost use Rattle.literal_base.specs.Leftmost.{IsLeftmost, IsLeftmostMatch};

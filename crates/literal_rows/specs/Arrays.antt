@@ -76,7 +76,7 @@ scan_by prints = record {
   short = short_of (unpacked (drop SHORT_AT prints));
 }
 
--- the scan in such numbers, if it goes by a rare pair: its fingerprints, which it does not use, are any
+-- the scan in such numbers, which goes by a rare pair. It uses no fingerprints, so these may differ
 pub record IsPairScan (prints : List ℕ) (scan : CandidateScan) : Type 0 where
   pub some : 0 < past_skipped prints
   pub by_pair : IsSome scan.pair

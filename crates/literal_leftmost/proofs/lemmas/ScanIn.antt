@@ -20,7 +20,7 @@ pub owed_is : (prints : List ℕ) (scan : Option CandidateScan) → MatchOption 
 owed_is prints None is = grind (arith, is)
 owed_is prints (Some s) is = grind (arith, is.0)
 
--- a progress that owes less
+-- a progress with fewer owed bytes is one with more
 owing : (b : Backward) (span : Span) (less owed base now : ℕ) (f : Progress) → less ≤ owed
     → IsProgress b span less base now f → IsProgress b span owed base now f
 owing b span less owed base now f few is = record {
