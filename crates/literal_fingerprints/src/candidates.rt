@@ -6,6 +6,7 @@ ghost use Rattle.literal_fingerprints.specs.CandidateScans.{without_first};
 ghost use Rattle.literal_fingerprints.specs.RarePairs.{AreOf};
 ghost use Rattle.literal_fingerprints.specs.ShortPatterns.{IsOnly};
 
+use crate::buckets::bytes_before_fingerprints;
 use crate::fingerprints::{BYTES, Fingerprints};
 use crate::pair::{RarePair, bytes_before_pair};
 use crate::short::ShortPattern;
@@ -46,11 +47,12 @@ impl CandidateScan {
                 short: short_for(ignore_case, patterns),
             });
         }
-        let fingerprints = Fingerprints::new(ignore_case, patterns)?;
+        let skipped = bytes_before_fingerprints(patterns);
+        let fingerprints = Fingerprints::new(ignore_case, skipped as usize, patterns)?;
         Some(CandidateScan {
             fingerprints,
             pair: None,
-            skipped: 0,
+            skipped,
             short: None,
         })
     }

@@ -2,6 +2,7 @@
 ghost use Rattle.std.specs.Prelude.{◌≡◌, ℕ, ◌+◌, ◌-◌, ◌*◌, ◌%◌, ◌<◌, ◌≤◌, List, IfSome, IsTrue};
 ghost use Rattle.std.specs.Prelude.{[], length, map, slice_index, slice_index_or, take};
 ghost use Rattle.literal_base.specs.Occurs.{IsValidSpan};
+ghost use Rattle.literal_fingerprints.specs.CandidateScans.{without_first};
 ghost use Rattle.literal_fingerprints.specs.FingerprintsValue.{AllPass, FingerprintsMayStop, LetsPass};
 ghost use Rattle.literal_fingerprints.specs.FingerprintsValue.{NoneBegins, fingerprints_in};
 ghost use Rattle.literal_fingerprints.specs.Inside.Lanes.{HasLanes};
@@ -11,7 +12,7 @@ ghost use Rattle.literal_fingerprints.specs.Inside.Scan.{AreTables, HasPassed, I
 mod far;
 
 use crate::both_nibbles::joined_halves;
-use crate::buckets::{Buckets, LOOKED_AT};
+use crate::buckets::{Buckets, LOOKED_AT, after_skipped};
 use crate::lanes::{LANES, first_set, load, load_rest, zeros_before};
 use crate::looked_up::{LookedUp, Tables};
 use crate::nibbles::{HALVES, Nibbles};
@@ -75,16 +76,18 @@ impl Model for Fingerprints {
 }
 
 impl Fingerprints {
-    /// Returns the fingerprints of some patterns. There are none if there is no pattern, an empty one, or more than 64,
-    /// or if so many offsets would pass that a scan does not help.
-    pub fn new(ignore_case: bool, patterns: &[Vec<u8>]) -> Option<Fingerprints>
-        ensures pass { IfSome result (λ f. AllPass f ignore_case (map (λ pattern. pattern.items) patterns.now)) }
+    /// Returns the fingerprints of some patterns without their first bytes, of which so many are skipped. There are
+    /// none if there is no pattern, one that has no more bytes, or more than 64, or if so many offsets would pass that
+    /// a scan does not help.
+    pub fn new(ignore_case: bool, skipped: usize, patterns: &[Vec<u8>]) -> Option<Fingerprints>
+        ensures pass { IfSome result (λ f. AllPass f ignore_case
+            (without_first skipped (map (λ pattern. pattern.items) patterns.now))) }
         ensures some { IfSome result (λ _. (0 < length patterns.now) × (length patterns.now ≤ 64)) }
     {
         if patterns.is_empty() || patterns.len() > MOST_PATTERNS {
             return None;
         }
-        let buckets = Buckets::of(ignore_case, patterns);
+        let buckets = Buckets::of(ignore_case, skipped, patterns);
         if buckets.are_too_full() {
             return None;
         }
@@ -94,7 +97,7 @@ impl Fingerprints {
             third: buckets.table(2),
             fourth: buckets.table(3),
         };
-        if made.are_for(ignore_case, patterns) {
+        if made.are_for(ignore_case, skipped, patterns) {
             Some(made)
         } else {
             None
@@ -142,12 +145,13 @@ impl Fingerprints {
         }
     }
 
-    /// Whether each pattern passes wherever it occurs.
-    fn are_for(&self, ignore_case: bool, patterns: &[Vec<u8>]) -> bool
-        ensures { IsTrue result → AllPass self.now ignore_case (map (λ pattern. pattern.items) patterns.now) }
+    /// Whether each pattern without the skipped bytes passes wherever it occurs.
+    fn are_for(&self, ignore_case: bool, skipped: usize, patterns: &[Vec<u8>]) -> bool
+        ensures { IsTrue result → AllPass self.now ignore_case
+            (without_first skipped (map (λ pattern. pattern.items) patterns.now)) }
     {
         for pattern in patterns {
-            if !self.lets_pass(ignore_case, pattern) {
+            if !self.lets_pass(ignore_case, after_skipped(pattern, skipped)) {
                 return false;
             }
         }

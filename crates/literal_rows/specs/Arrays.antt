@@ -76,13 +76,14 @@ scan_by prints = record {
   short = short_of (unpacked (drop SHORT_AT prints));
 }
 
--- the scan in such numbers, which goes by a rare pair. It uses no fingerprints, so these may differ
+-- the scan in such numbers, which goes by a rare pair. It uses no fingerprints, so these may differ, and holds no short
+-- pattern
 pub record IsPairScan (prints : List ℕ) (scan : CandidateScan) : Type 0 where
   pub some : 0 < past_skipped prints
   pub by_pair : IsSome scan.pair
   pub pair : scan.pair ≡ (scan_by prints).pair
   pub skipped : scan.skipped ≡ (scan_by prints).skipped
-  pub short : scan.short ≡ (scan_by prints).short
+  pub short : scan.short ≡ None
 
 -- a number of 32 bits, mixed so that different numbers stay different: its upper half is xored into the lower one, and
 -- the result is multiplied by an odd factor, in 32 bits

@@ -281,8 +281,8 @@ fn scan_by(prints: &[u32]) -> CandidateScan
     }
 }
 
-/// The scan for candidates that these numbers describe, if it goes by a rare pair. Such a scan does not use its
-/// fingerprints, so none are read.
+/// The scan for candidates that these numbers describe, if it goes by a rare pair. Only what such a scan uses is read:
+/// the pair, and how many bytes are skipped.
 #[inline(always)]
 pub fn pair_scan_in(prints: &[u32]) -> Option<CandidateScan>
     requires { length prints.now ≡ SCAN_LEN }
@@ -299,7 +299,7 @@ pub fn pair_scan_in(prints: &[u32]) -> Option<CandidateScan>
         fingerprints: Fingerprints::from_bytes(&[0; BYTES]),
         pair: Some(pair),
         skipped: skipped_by(prints),
-        short: short_by(&prints[SHORT_AT..SCAN_LEN]),
+        short: None,
     })
 }
 

@@ -70,7 +70,7 @@ fn assert_stops_at_each_place(
     (ignore_case, list, bytes): &(bool, [&[u8]; 3], &[u8]),
 ) -> Result<(), Fail> {
     let patterns = copies(alloc, list)?;
-    let scan = Fingerprints::new(*ignore_case, &patterns).ok_or("there are none")?;
+    let scan = Fingerprints::new(*ignore_case, 0, &patterns).ok_or("there are none")?;
     for number in 0usize..81 * 80 {
         let haystack = haystack_with(alloc, number / 80, bytes, number % 80)?;
         for start in [0, 5] {
@@ -101,7 +101,7 @@ fn assert_stops_at(
 /// The only match is after 1 MiB, or where the scan begins to read 32 bytes at a time.
 fn assert_stops_far_behind(rt: &impl Abort, alloc: Global) -> Result<(), Fail> {
     let list = [b"some".as_slice(), b"many", b"Four"];
-    let scan = Fingerprints::new(true, &copies(alloc, &list)?).ok_or("there are none")?;
+    let scan = Fingerprints::new(true, 0, &copies(alloc, &list)?).ok_or("there are none")?;
     for more in [0, 5, 15] {
         assert_stops_at(rt, alloc, &scan, (1usize << 20) + more)?;
     }

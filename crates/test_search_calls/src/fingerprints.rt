@@ -1,6 +1,6 @@
-//! `Fingerprints` and `ShortPattern`.
+//! `Fingerprints`, `ShortPattern`, and the calls for one byte.
 use literal_base::count::Tally;
-use literal_fingerprints::{Fingerprints, ShortPattern};
+use literal_fingerprints::{Fingerprints, ShortPattern, count_byte, find_byte};
 use literal_search::Span;
 use std::alloc::{AllocError, Global};
 use std::process::Abort;
@@ -54,7 +54,7 @@ fn fingerprints(
         pattern.extend_from_slice(word)?;
         patterns.push(pattern)?;
     }
-    Ok(Fingerprints::new(ignore_case, &patterns))
+    Ok(Fingerprints::new(ignore_case, 0, &patterns))
 }
 
 #[test]
@@ -95,6 +95,20 @@ fn compares_with_short_patterns(rt: HostRuntime) -> Result<(), Fail> {
     assert!(rt; ShortPattern::new(b"").is_none());
     assert!(rt; ShortPattern::new(&haystack[..16]).is_some());
     assert!(rt; ShortPattern::new(&haystack[..17]).is_none());
+    Ok(())
+}
+
+#[test]
+fn finds_and_counts_one_byte(rt: HostRuntime) -> Result<(), Fail> {
+    let haystack = b"My first, my second, my Secret and the others.";
+    let span = Span { start: 1, end: 45 };
+    let tally = &mut Tally::new();
+    assert!(rt; find_byte(haystack, span, b'S', tally) == 24);
+    assert!(rt; find_byte(haystack, span, b'h', tally) == 36);
+    assert!(rt; find_byte(haystack, span, b'M', tally) == 45);
+    assert!(rt; find_byte(haystack, span, b'.', tally) == 45);
+    assert!(rt; count_byte(haystack, span, b'e', tally) == 5);
+    assert!(rt; count_byte(haystack, span, b'.', tally) == 0);
     Ok(())
 }
 

@@ -2,7 +2,8 @@
 use Rattle.std.proofs.Common.{◌≡◌, ℕ, ◌+◌, ◌-◌, ◌<◌, ◌≤◌, ◌∙◌, Bool, false, true, List, [], ap, arith, drop}
 use Rattle.std.proofs.Common.{◌∷◌, length, min, refl, slice_range, subst, suc, sym, zero}
 use Rattle.std.proofs.Math.Seq.{drop-nil}
-use Rattle.std.proofs.lemmas.List.{drop-drop, drop-map, drop-take, length-drop, length-map}
+use Rattle.std.proofs.lemmas.List.{drop-drop, drop-map, drop-take, get_or-map, length-drop, length-map}
+use Rattle.std.specs.List.{All}
 use Rattle.std.specs.Char.{to_ascii_lowercase}
 use Rattle.literal_base.specs.Occurs.{AreEqualBytes, Occurs, between, pattern_at}
 use Rattle.literal_base.specs.declared.search.Span.{Span}
@@ -15,10 +16,12 @@ pattern_behind n [] i = sym (drop-nil n)
 pattern_behind n (pattern ∷ more) zero = refl
 pattern_behind n (pattern ∷ more) (suc i) = pattern_behind n more i
 
--- without no byte they are the patterns
-pub without_none : (patterns : List (List ℕ)) → patterns ≡ without_first 0 patterns
-without_none [] = refl
-without_none (pattern ∷ more) = ap (λ (all : List (List ℕ)). pattern ∷ all) (without_none more)
+-- what holds of each pattern without its first bytes holds of all without these
+pub all_behind : (P : List ℕ → Type 0) (n : ℕ) (patterns : List (List ℕ))
+    → All (λ (pattern : List ℕ). P (drop n pattern)) patterns → All P (without_first n patterns)
+all_behind P n patterns each i d below =
+    let inside : i < length patterns = omega (arith, below, length-map patterns (drop {A = ℕ} n)) in
+    subst P (sym (get_or-map (drop n) patterns i [] d inside)) (each i [] inside)
 
 -- bytes that are equal are so without the first ones
 equal_behind : (ignore_case : Bool) (n : ℕ) (a b : List ℕ) → AreEqualBytes ignore_case a b

@@ -1,6 +1,6 @@
 -- Patterns that are assigned to buckets.
-use Rattle.std.specs.Prelude.{◌≡◌, ◌⊎◌, ℕ, ◌-◌, ◌*◌, ◌/◌, ◌%◌, ◌<◌, Bool, true, List, [], count_ones, length, min}
-use Rattle.std.specs.Prelude.{slice_index, slice_index_or, sum_by}
+use Rattle.std.specs.Prelude.{◌≡◌, ◌⊎◌, ℕ, ◌+◌, ◌-◌, ◌*◌, ◌/◌, ◌%◌, ◌<◌, Bool, true, List, [], bit_and, count_ones}
+use Rattle.std.specs.Prelude.{length, min, slice_index, slice_index_or, sum_by}
 use Rattle.std.specs.Int.{bit_at}
 use Rattle.literal_base.specs.Occurs.{same_byte}
 use Rattle.literal_fingerprints.specs.declared.buckets.Bucket.{Bucket}
@@ -26,9 +26,9 @@ abbrev pub IsHeld : List Bucket → Bool → List ℕ → Type 0
 IsHeld buckets ignore_case pattern =
     (b : ℕ) × (b < 8) × Holds (slice_index_or buckets b (record { places = [] })) ignore_case pattern
 
--- the number of bytes that have both nibbles in the sets
+-- the number of bytes that have both nibbles in the sets, where the byte 0 counts like 64 bytes
 abbrev pub bytes_of : Halves → ℕ
-bytes_of h = count_ones h.low * count_ones h.high
+bytes_of h = count_ones h.low * count_ones h.high + bit_and (bit_and h.low h.high) 1 * 63
 
 -- the number of texts of four bytes that pass a bucket, if bytes have `kinds` values
 abbrev pub texts_of : ℕ → Bucket → ℕ
