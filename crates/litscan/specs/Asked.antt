@@ -1,5 +1,5 @@
 -- The occurrences of words in a line that `-w` and `-x` allow. With neither, all are allowed.
-use Rattle.std.specs.Prelude.{◌≡◌, ℕ, ◌+◌, ◌-◌, ◌≤◌, ◌==◌, ◌&&◌, ◌||◌, Bool, true, List, [], ◌∷◌, length}
+use Rattle.std.specs.Prelude.{◌≡◌, ◌⊎◌, ℕ, ◌+◌, ◌-◌, ◌≤◌, ◌==◌, ◌&&◌, ◌||◌, ◌++◌, Bool, true, List, [], ◌∷◌, length}
 use Rattle.std.specs.Prelude.{if◌then◌else◌, nat_lt, not, slice_index}
 use Rattle.std.specs.Char.{is_ascii_alphanumeric}
 use Rattle.std.specs.List.{list_any, range_with_len}
@@ -25,11 +25,20 @@ is_before_word line at = nat_lt at (length line) && is_word_byte (slice_index li
 abbrev pub stands_alone : List ℕ → ℕ → ℕ → Bool
 stands_alone line start end = not (is_behind_word line start) && not (is_before_word line end)
 
+-- whether a line ends at an offset; with `--crlf` also where only a carriage return follows
+abbrev pub ends_line : Options → List ℕ → ℕ → Bool
+ends_line options line end =
+    end == length line || (options.crlf && end + 1 == length line && slice_index line end == 13)
+
+-- a line is this text; with `--crlf` also if a carriage return follows the text
+abbrev pub IsLineOf : Options → List ℕ → List ℕ → Type 0
+IsLineOf options line text = (line ≡ text) ⊎ ((options.crlf ≡ true) × (line ≡ text ++ 13 ∷ []))
+
 -- whether an occurrence with this start and end in a line is allowed: `-x` requires the whole line, `-w` no word byte
 -- next to it
 abbrev pub is_asked : Options → List ℕ → ℕ → ℕ → Bool
 is_asked options line start end =
-    if options.whole then (start == 0) && (end == length line)
+    if options.whole then start == 0 && ends_line options line end
     else if options.alone then stands_alone line start end else true
 
 -- the pattern of this number occurs at an offset, whole in a span of a line, and the occurrence is allowed
@@ -46,7 +55,7 @@ one_asked search options line =
     (range_with_len 0 (length line + 1))
 
 -- the match is an allowed occurrence in a span of a line; no other allowed one begins before it, and none at its offset
--- is longer
+-- is longer, or is as long and listed before
 pub record IsFirstAsked (search : SearchValue) (options : Options) (line : List ℕ) (span : Span)
     (found : MatchValue) : Type 0 where
   pub occurs : OccursAsked search options line span found.pattern found.start
@@ -54,6 +63,9 @@ pub record IsFirstAsked (search : SearchValue) (options : Options) (line : List 
   pub first : (i at : ℕ) → OccursAsked search options line span i at → found.start ≤ at
   pub longest : (i : ℕ) → OccursAsked search options line span i found.start
       → found.start + length (pattern_at search.query.patterns i) ≤ found.end
+  pub listed : (i : ℕ) → OccursAsked search options line span i found.start
+      → length (pattern_at search.query.patterns i) ≡ length (pattern_at search.query.patterns found.pattern)
+      → found.pattern ≤ i
 
 -- no pattern has an allowed occurrence in a span of a line
 abbrev pub NothingAsked : SearchValue → Options → List ℕ → Span → Type 0

@@ -5,8 +5,8 @@ use Rattle.std.specs.List.{list_any, range_with_len, slice_range}
 use Rattle.std.specs.Option.{is_some}
 use Rattle.literal_search.specs.SearchValue.{SearchValue}
 use Rattle.litscan.specs.Lines.{with_feed}
-use Rattle.litscan.specs.Options.{is_enough, is_silent, limit_of}
-use Rattle.litscan.specs.Printed.{PrintsFound, in_color, printed_part}
+use Rattle.litscan.specs.Options.{is_enough, is_replaced, is_silent, limit_of}
+use Rattle.litscan.specs.Printed.{PrintsFound, PrintsWhole, in_color}
 use Rattle.litscan.specs.declared.options.Options.{Options}
 
 -- whether lines around selected lines are requested, and lines are printed
@@ -59,12 +59,20 @@ is_printed _ = true
 abbrev pub as_context : Options → Options
 as_context options = record options { dashed = true }
 
--- the output for a line near a selected one. It has matches to print only if the lines without a word are selected
+-- the output for a line near a selected one, if the lines with a word are selected: nothing with `-o`, or else the
+-- line, in which matches are masked too
+abbrev pub PrintsBeside : Bool → SearchValue → Options → List ℕ → ℕ → ℕ → List ℕ → List ℕ → Type 0
+PrintsBeside true search options name number offset line out = out ≡ []
+PrintsBeside false search options name number offset line out =
+    PrintsWhole (is_replaced options.shown) search (as_context options) name number offset line out
+
+-- the output for a line near a selected one. With `-o` it has matches to print only if the lines without a word are
+-- selected
 abbrev pub PrintsNear : Bool → SearchValue → Options → List ℕ → ℕ → ℕ → List ℕ → List ℕ → Type 0
 PrintsNear true search options name number offset line out =
     PrintsFound options.only search (as_context options) name number offset line out
 PrintsNear false search options name number offset line out =
-    out ≡ (if options.only then [] else printed_part (as_context options) name number offset line line)
+    PrintsBeside options.only search options name number offset line out
 
 -- the output for a line with a mark
 abbrev pub PrintsMarked : Mark → SearchValue → Options → List ℕ → ℕ → ℕ → List ℕ → List ℕ → Type 0

@@ -8,8 +8,9 @@ use Rattle.litscan.specs.declared.fault.Fault.TheVariants.{Ambiguous, UnknownNam
 use Rattle.litscan.specs.declared.names.Long.{Long}
 use Rattle.litscan.specs.declared.names.Long.TheVariants as long
 use Rattle.litscan.specs.declared.names.Rule.TheVariants.{Exclude, ExcludeFolder, ExcludeFrom, Include}
-use Rattle.litscan.specs.declared.names.Setting.TheVariants.{BinaryFiles, Label, Rule, Separator}
-use Rattle.litscan.specs.declared.names.Switch.TheVariants.{LineBuffered, MindCase, NoSeparator}
+use Rattle.litscan.specs.declared.names.Setting.TheVariants.{BinaryFiles, Label, Mask, Rule, Separator}
+use Rattle.litscan.specs.declared.names.Switch.TheVariants.{Crlf, LineBuffered, MindCase, NoSeparator}
+use Rattle.litscan.specs.declared.names.Switch.TheVariants.{SkipBlank, WhichWord}
 
 -- a long name and its option, as contracts see them
 pub record NamedValue : Type 0 where
@@ -32,6 +33,7 @@ long_names =
     ∷ record { name = codes "--color"; option = long.Color }
     ∷ record { name = codes "--colour"; option = long.Color }
     ∷ record { name = codes "--count"; option = long.Letter 99 }
+    ∷ record { name = codes "--crlf"; option = long.Switch Crlf }
     ∷ record { name = codes "--devices"; option = long.Letter 68 }
     ∷ record { name = codes "--directories"; option = long.Letter 100 }
     ∷ record { name = codes "--exclude"; option = long.Setting (Rule Exclude) }
@@ -50,6 +52,7 @@ long_names =
     ∷ record { name = codes "--line-buffered"; option = long.Switch LineBuffered }
     ∷ record { name = codes "--line-number"; option = long.Letter 110 }
     ∷ record { name = codes "--line-regexp"; option = long.Letter 120 }
+    ∷ record { name = codes "--mask"; option = long.Setting Mask }
     ∷ record { name = codes "--max-count"; option = long.Letter 109 }
     ∷ record { name = codes "--no-filename"; option = long.Letter 104 }
     ∷ record { name = codes "--no-group-separator"; option = long.Switch NoSeparator }
@@ -63,10 +66,12 @@ long_names =
     ∷ record { name = codes "--regexp"; option = long.Letter 101 }
     ∷ record { name = codes "--invert-match"; option = long.Letter 118 }
     ∷ record { name = codes "--silent"; option = long.Letter 113 }
+    ∷ record { name = codes "--skip-blank"; option = long.Switch SkipBlank }
     ∷ record { name = codes "--text"; option = long.Letter 97 }
     ∷ record { name = codes "--binary"; option = long.Letter 85 }
     ∷ record { name = codes "--unix-byte-offsets"; option = long.Letter 117 }
     ∷ record { name = codes "--version"; option = long.Letter 86 }
+    ∷ record { name = codes "--which-word"; option = long.Switch WhichWord }
     ∷ record { name = codes "--with-filename"; option = long.Letter 72 }
     ∷ record { name = codes "--word-regexp"; option = long.Letter 119 }
     ∷ []

@@ -10,8 +10,11 @@ use Rattle.litscan.specs.declared.options.Color.TheVariants.{Always, Auto, Never
 use Rattle.litscan.specs.declared.options.Folders.{Folders}
 use Rattle.litscan.specs.declared.options.Folders.TheVariants as folders
 use Rattle.litscan.specs.declared.options.Options.{Options}
+use Rattle.litscan.specs.declared.options.Shown.{Shown}
+use Rattle.litscan.specs.declared.options.Shown.TheVariants as shown
 use Rattle.litscan.specs.declared.names.Switch.{Switch}
-use Rattle.litscan.specs.declared.names.Switch.TheVariants.{LineBuffered, MindCase, NoSeparator}
+use Rattle.litscan.specs.declared.names.Switch.TheVariants.{Crlf, LineBuffered, MindCase, NoSeparator}
+use Rattle.litscan.specs.declared.names.Switch.TheVariants.{SkipBlank, WhichWord}
 
 -- the options if none is given
 abbrev pub no_options : Options
@@ -35,6 +38,7 @@ no_options = record {
   width = 0;
   listed = None;
   color = Never;
+  shown = shown.Match;
   line_buffered = false;
   quiet = false;
   untold = false;
@@ -45,6 +49,8 @@ no_options = record {
   in_number = false;
   separated = true;
   dashed = false;
+  crlf = false;
+  skip_blank = false;
   help = false;
   version = false;
 }
@@ -100,6 +106,9 @@ abbrev pub with_switch : Switch → Options → Options
 with_switch LineBuffered options = record options { line_buffered = true }
 with_switch MindCase options = record options { ignore_case = false }
 with_switch NoSeparator options = record options { separated = false }
+with_switch Crlf options = record options { crlf = true }
+with_switch SkipBlank options = record options { skip_blank = true }
+with_switch WhichWord options = record options { only = true; shown = shown.Number }
 
 -- the options with the one of this letter, D or d, set to an action, and None if it has no such action
 abbrev pub with_action : ℕ → Options → List ℕ → Option Options
@@ -117,6 +126,11 @@ with_binary_files options kind =
     if bytes_eq kind (codes "text") then with_letter options 97
     else if bytes_eq kind (codes "without-match") then with_letter options 73
     else None
+
+-- the options with a byte that is printed for each byte of a match, and None if the argument is not one byte
+abbrev pub with_mask : Options → List ℕ → Option Options
+with_mask options (byte ∷ []) = Some (record options { shown = shown.Mask byte })
+with_mask options _ = None
 
 -- whether directories are searched
 abbrev pub is_walking : Folders → Bool
@@ -141,6 +155,15 @@ is_always _ = false
 -- whether output is coloured
 abbrev pub is_colored : Options → Bool
 is_colored options = is_always options.color
+
+-- whether anything else than a match is printed for it
+abbrev pub is_replaced : Shown → Bool
+is_replaced shown.Match = false
+is_replaced _ = true
+
+-- whether a line is printed otherwise than it is if it has a match
+abbrev pub is_marked : Options → Bool
+is_marked options = is_colored options || is_replaced options.shown
 
 -- whether no line is printed: only the number of lines, file names, or nothing is requested
 abbrev pub is_silent : Options → Bool

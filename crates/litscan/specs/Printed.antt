@@ -1,6 +1,6 @@
 -- The text that is read, and the output for its lines.
 use Rattle.std.specs.Prelude.{◌≡◌, ◌≤◌, ◌<◌, ◌⊎◌, ◌||◌, ℕ, ◌+◌, ◌-◌, ◌^◌, ◌++◌, Bool, true, false, List, [], ◌∷◌}
-use Rattle.std.specs.Prelude.{length}
+use Rattle.std.specs.Prelude.{length, replicate}
 use Rattle.std.specs.Prelude.{Option, Some, None, ⊤, codes, if◌then◌else◌, nat_lt, not, take, unwrap_or, ◌&&◌}
 use Rattle.std.specs.Fmt.{decimal}
 use Rattle.std.specs.Io.KnownBytes.{Consumes}
@@ -12,10 +12,12 @@ use Rattle.std.specs.declared.io.ErrorKind.TheVariants as kind
 use Rattle.litscan.specs.Asked.{AreMatches, one_asked}
 use Rattle.litscan.specs.Fault.{IsReadFault, IsWriteFault}
 use Rattle.litscan.specs.Lines.{with_end, with_feed}
-use Rattle.litscan.specs.Options.{is_colored, is_enough, limit_of}
+use Rattle.litscan.specs.Options.{is_colored, is_enough, is_marked, limit_of}
 use Rattle.litscan.specs.declared.fault.Fault.{Fault}
 use Rattle.litscan.specs.declared.fault.Fault.TheVariants.{OutOfMemory}
 use Rattle.litscan.specs.declared.options.Options.{Options}
+use Rattle.litscan.specs.declared.options.Shown.{Shown}
+use Rattle.litscan.specs.declared.options.Shown.TheVariants as shown
 use Rattle.litscan.specs.declared.selected.Scanned.{Scanned}
 
 -- the known bytes left to read were this text, and none is left
@@ -80,9 +82,15 @@ in_color options color bytes = color_on options color ++ bytes ++ color_off opti
 abbrev pub printed_colon : Options → List ℕ
 printed_colon options = in_color options (codes "36") (if options.dashed then codes "-" else codes ":")
 
--- a match, in bold red
-abbrev pub printed_match : Options → List ℕ → List ℕ
-printed_match options bytes = in_color options (codes "01;31") bytes
+-- what is printed for a match in a line: the match, a byte for each of its bytes, or the number of its word, from 1
+abbrev pub shown_match : Shown → List ℕ → MatchValue → List ℕ
+shown_match shown.Match line found = slice_range line found.start found.end
+shown_match (shown.Mask byte) line found = replicate (found.end - found.start) byte
+shown_match shown.Number line found = decimal (found.pattern + 1)
+
+-- the same, in bold red
+abbrev pub printed_match : Options → List ℕ → MatchValue → List ℕ
+printed_match options line found = in_color options (codes "01;31") (shown_match options.shown line found)
 
 -- a number, with spaces before it up to this width
 abbrev pub padded_number : ℕ → ℕ → List ℕ
@@ -135,17 +143,17 @@ printed_part options name number offset bytes shown =
 abbrev pub printed_matches : Options → List ℕ → ℕ → ℕ → List ℕ → List MatchValue → List ℕ
 printed_matches options name number offset line all =
     flat_map
-    (λ found. let bytes = slice_range line found.start found.end in
-    printed_part options name number (offset + found.start) bytes (printed_match options bytes))
+    (λ found. printed_part options name number (offset + found.start) (slice_range line found.start found.end)
+    (printed_match options line found))
     all
 
--- a line from an offset on, with these matches in colour, if colours are requested
+-- a line from an offset on, with these matches as they are printed
 abbrev pub marked_from : Options → List ℕ → ℕ → List MatchValue → List ℕ
 marked_from options line at [] = slice_range line at (length line)
 marked_from options line at (found ∷ more) = slice_range line at found.start
-    ++ printed_match options (slice_range line found.start found.end) ++ marked_from options line found.end more
+    ++ printed_match options line found ++ marked_from options line found.end more
 
--- the output for a whole line, with its matches in colour if colours are requested
+-- the output for a whole line: as it is, or with its matches as they are printed
 abbrev pub PrintsWhole : Bool → SearchValue → Options → List ℕ → ℕ → ℕ → List ℕ → List ℕ → Type 0
 PrintsWhole false search options name number offset line out = out ≡ printed_part options name number offset line line
 PrintsWhole true search options name number offset line out = (all : List MatchValue)
@@ -155,7 +163,7 @@ PrintsWhole true search options name number offset line out = (all : List MatchV
 -- the output for a selected line: the whole line, or its matches
 abbrev pub PrintsFound : Bool → SearchValue → Options → List ℕ → ℕ → ℕ → List ℕ → List ℕ → Type 0
 PrintsFound false search options name number offset line out =
-    PrintsWhole (is_colored options) search options name number offset line out
+    PrintsWhole (is_marked options) search options name number offset line out
 PrintsFound true search options name number offset line out = (all : List MatchValue)
     × AreMatches search options line 0 all
     × (out ≡ printed_matches options name number offset line all)

@@ -26,7 +26,7 @@ use Rattle.litscan.specs.declared.request.Choice.{Choice}
 use Rattle.litscan.specs.Names.{option_named}
 use Rattle.litscan.specs.Options.{behind_number, color_named, is_walking, no_options, number_of}
 use Rattle.litscan.specs.Options.{takes_action, takes_argument, takes_number, with_action}
-use Rattle.litscan.specs.Options.{with_binary_files, with_letter, with_number, with_switch}
+use Rattle.litscan.specs.Options.{with_binary_files, with_letter, with_mask, with_number, with_switch}
 
 -- a source of words, as contracts see it: the lines of some bytes, or of a file of this name
 pub data SourceValue : Type 0 where
@@ -158,10 +158,11 @@ abbrev pub with_label : List ℕ → RequestValue → RequestValue
 with_label label request = record request { label = Some label }
 
 -- the request with the argument of an option without a letter: how files that are not text are handled, which has to be
--- valid, the name of standard input, the separator of groups, or a choice of files
+-- valid, the name of standard input, the byte that masks matches, the separator of groups, or a choice of files
 abbrev pub with_setting : Setting → List ℕ → RequestValue → Asked
 with_setting setting.BinaryFiles kind request = with_checked request (with_binary_files request.options kind)
 with_setting setting.Label label request = Ok (with_label label request)
+with_setting setting.Mask mask request = with_checked request (with_mask request.options mask)
 with_setting setting.Separator separator request = Ok (with_separator separator request)
 with_setting (setting.Rule rule) glob request =
     Ok (with_choice (record { rule = rule; glob = glob }) request)

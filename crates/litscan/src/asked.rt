@@ -4,7 +4,7 @@ ghost use Rattle.literal_base.specs.Leftmost.{IsLeftmostMatch};
 ghost use Rattle.literal_base.specs.Occurs.{IsValidSpan, between, rest_from};
 ghost use Rattle.literal_base.specs.declared.packed.MatchKind.TheVariants.{LeftmostLongest};
 ghost use Rattle.litscan.specs.Asked.{IsFirstAsked, NothingAsked, OccursAsked, is_asked, is_behind_word};
-ghost use Rattle.litscan.specs.Asked.{is_before_word, is_word_byte, one_asked, stands_alone};
+ghost use Rattle.litscan.specs.Asked.{ends_line, is_before_word, is_word_byte, one_asked, stands_alone};
 ghost use Rattle.litscan.specs.Inside.Asked.{IsAlong};
 
 use crate::options::Options;
@@ -163,7 +163,7 @@ fn whole_line(search: &Search, options: Options, line: &[u8], from: usize) -> Op
         return None;
     }
     let found = search.match_at(line, 0)?;
-    if found.end() != line.len() {
+    if !ends_line(options, line, found.end()) {
         return None;
     }
     Some(found)
@@ -175,9 +175,17 @@ fn is_asked(options: Options, line: &[u8], span: Span) -> bool
     ensures { result ≡ is_asked options line.now span.start span.end }
 {
     if options.whole {
-        return span.start == 0 && span.end == line.len();
+        return span.start == 0 && ends_line(options, line, span.end);
     }
     !options.alone || stands_alone(line, span)
+}
+
+/// Whether a line ends at an offset; with `--crlf` also where only a carriage return follows.
+fn ends_line(options: Options, line: &[u8], end: usize) -> bool
+    requires { end ≤ length line.now }
+    ensures { result ≡ ends_line options line.now end }
+{
+    end == line.len() || (options.crlf && end + 1 == line.len() && line[end] == b'\r')
 }
 
 /// Whether no word byte is right before or right after a span of a line.

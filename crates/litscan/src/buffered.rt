@@ -1,16 +1,19 @@
 //! Handles whole lines where they are buffered, without a copy of them.
 ghost use Rattle.literal_base.specs.declared.packed.MatchKind.TheVariants.{LeftmostLongest};
 ghost use Rattle.litscan.specs.Fault.{IsReadFault, IsWriteFault, StopsRead};
-ghost use Rattle.litscan.specs.Inside.Passed.{PassesOthers, TakesLines, prints_others};
+ghost use Rattle.litscan.specs.Inside.Passed.{EndsLine, PassesOthers, TakesLines, printed_each, prints_others};
+ghost use Rattle.litscan.specs.Lines.{lines_of};
 ghost use Rattle.litscan.specs.declared.fault.Fault.TheVariants.{ReadFailed};
 ghost use Rattle.std.specs.Io.KnownBytes.{Appends, Consumes, Keeps};
-ghost use Rattle.std.specs.Prelude.{◌≡◌, ◌≤◌, IfErr, IfOk, List, OnOk, [], false, if◌then◌else◌, length, take, true};
+ghost use Rattle.std.specs.Prelude.{◌+◌, ◌<◌, ◌^◌, ◌≡◌, ◌≤◌, IfErr, IfOk, List, OnOk, [], false, if◌then◌else◌};
+ghost use Rattle.std.specs.Prelude.{length, take, true};
 ghost use Rattle.std.specs.Prelude.{ℕ};
 
 use crate::device::{Device, ReadsAhead, flush_before_wait, flush_line};
 use crate::fault::Fault;
 use crate::options::Options;
-use crate::passed::look_ahead;
+use crate::passed::{first_end, look_ahead};
+use crate::printing::print_part;
 use crate::selected::{end_behind, prints_nothing, take_line};
 use literal_search::Search;
 use std::io::{self, BufRead, ErrorKind, Write};
@@ -43,7 +46,7 @@ impl Ahead {
 }
 
 /// Handles whole lines of the buffered bytes, up to the first one with a match, or only the first line. With `-v` it
-/// handles none if there is a limit, or if anything is printed before lines.
+/// handles none if there is a limit.
 pub fn take_ahead<R: BufRead + ReadsAhead, W: Write>(
     search: &Search,
     options: Options,
@@ -71,11 +74,11 @@ pub fn take_ahead<R: BufRead + ReadsAhead, W: Write>(
     reader.take_lines(search, options, name, lines, offset, far, writer)
 }
 
-/// Whether lines without a word may be handled together: none is selected, or all are printed as they are.
+/// Whether lines without a word may be handled together: none is selected, or there is no limit.
 fn passes_others(options: Options) -> bool
     ensures { result ≡ true → PassesOthers options }
 {
-    !options.others || options.limit().is_none() && !options.has_head()
+    !options.others || options.limit().is_none()
 }
 
 impl<R: BufRead> Device<R> {
@@ -112,8 +115,8 @@ impl<R: BufRead> Device<R> {
         Ok(ahead)
     }
 
-    /// The result of [`Device::take_lines`] if a read fails. After an interrupted read, no line is handled.
-    fn after_fill(&mut self, error: io::Error) -> Result<Ahead, Fault>
+    /// The result of handling lines if a read fails. After an interrupted read, no line is handled.
+    pub fn after_fill(&mut self, error: io::Error) -> Result<Ahead, Fault>
         ensures inner { self.new.inner ≡ self.old.inner }
         ensures none { IfOk result (λ ahead. ahead ≡ record { lines = 0; bytes = 0; count = 0; found = false }) }
         ensures error { IfErr result (IsReadFault self.new.failure) }
@@ -150,8 +153,9 @@ fn take_buffered<W: Write>(
     let Some(_) = end_behind(offset, bytes, 0) else {
         return Ok(Ahead::none());
     };
-    let passed = look_ahead(options.line_end, search, far, bytes);
-    let others = take_others(options, passed.lines, &bytes[..passed.bytes], writer)?;
+    let passed = look_ahead(options, search, far, bytes);
+    let front = &bytes[..passed.bytes];
+    let others = take_others(options, name, lines, offset, passed.lines, front, writer)?;
     let Some(len) = passed.next else {
         return Ok(Ahead {
             lines: passed.lines,
@@ -163,7 +167,8 @@ fn take_buffered<W: Write>(
     let line = &bytes[passed.bytes..passed.bytes + len];
     let number = lines + passed.lines as u64 + 1;
     let start = offset + passed.bytes as u64;
-    let count = take_line(true, search, options, name, number, start, line, writer)?;
+    let known = !options.whole;
+    let count = take_line(known, search, options, name, number, start, line, writer)?;
     flush_line(options, writer)?;
     Ok(Ahead {
         lines: passed.lines + 1,
@@ -173,24 +178,81 @@ fn take_buffered<W: Write>(
     })
 }
 
-/// Prints whole lines that contain no word, if they are requested, and returns how many are selected.
+/// Prints whole lines that contain no word, if they are requested, and returns how many are selected. They begin at
+/// this offset after so many lines.
 fn take_others<W: Write>(
     options: Options,
+    name: &[u8],
+    before: u64,
+    offset: u64,
     lines: usize,
     bytes: &[u8],
     writer: &mut Device<W>,
 ) -> Result<u64, Fault>
+    requires whole { EndsLine options.line_end bytes.now }
+    requires few { before ≤ offset }
+    requires inside { offset + length bytes.now + 1 < 2 ^ 64 }
     ensures count { IfOk result (λ count. count ≡ (if options.others then lines else 0)) }
     ensures written { OnOk result (Appends (W.contents writer.old.inner) (W.contents writer.new.inner)
-        (if prints_others options then bytes.now else [])) }
+        (if prints_others options then printed_each options name.now (before + 1) offset
+        (lines_of options.line_end bytes.now) else [])) }
     ensures error { IfErr result (IsWriteFault writer.new.failure) }
 {
     if !options.others {
         return Ok(0);
     }
     if !prints_nothing(options) {
-        writer.write_all(bytes)?;
+        print_whole(options, name, before + 1, offset, bytes, writer)?;
         flush_line(options, writer)?;
     }
     Ok(lines as u64)
+}
+
+/// Prints whole lines, of which the first has this number and begins at this offset.
+fn print_whole<W: Write>(
+    options: Options,
+    name: &[u8],
+    number: u64,
+    offset: u64,
+    bytes: &[u8],
+    writer: &mut Device<W>,
+) -> Result<(), Fault>
+    requires whole { EndsLine options.line_end bytes.now }
+    requires number { number + length bytes.now < 2 ^ 64 }
+    requires offset { offset + length bytes.now < 2 ^ 64 }
+    ensures written { OnOk result (Appends (W.contents writer.old.inner) (W.contents writer.new.inner)
+        (printed_each options name.now number offset (lines_of options.line_end bytes.now))) }
+    ensures error { IfErr result (IsWriteFault writer.new.failure) }
+{
+    if options.has_head() {
+        return print_each(options, name, number, offset, bytes, writer);
+    }
+    writer.write_all(bytes)
+}
+
+/// The same, line by line.
+fn print_each<W: Write>(
+    options: Options,
+    name: &[u8],
+    number: u64,
+    offset: u64,
+    bytes: &[u8],
+    writer: &mut Device<W>,
+) -> Result<(), Fault>
+    requires whole { EndsLine options.line_end bytes.now }
+    requires number { number + length bytes.now < 2 ^ 64 }
+    requires offset { offset + length bytes.now < 2 ^ 64 }
+    ensures written { OnOk result (Appends (W.contents writer.old.inner) (W.contents writer.new.inner)
+        (printed_each options name.now number offset (lines_of options.line_end bytes.now))) }
+    ensures error { IfErr result (IsWriteFault writer.new.failure) }
+{
+    let (mut at, mut next) = (0, number);
+    while at < bytes.len() {
+        let end = first_end(options.line_end, bytes, at);
+        let start = offset + at as u64;
+        print_part(options, name, next, start, &bytes[at..end], writer)?;
+        next += 1;
+        at = end + 1;
+    }
+    Ok(())
 }

@@ -74,7 +74,11 @@ pub fn print_colon<W: Write>(options: Options, writer: &mut Device<W>) -> Result
 }
 
 /// Turns a colour on.
-fn turn_on<W: Write>(options: Options, color: &[u8], writer: &mut Device<W>) -> Result<(), Fault>
+pub fn turn_on<W: Write>(
+    options: Options,
+    color: &[u8],
+    writer: &mut Device<W>,
+) -> Result<(), Fault>
     ensures printed { OnOk result (Appends (W.contents writer.old.inner) (W.contents writer.new.inner)
         (color_on options color.now)) }
     ensures error { IfErr result (IsWriteFault writer.new.failure) }
@@ -88,7 +92,7 @@ fn turn_on<W: Write>(options: Options, color: &[u8], writer: &mut Device<W>) -> 
 }
 
 /// Turns the colour off.
-fn turn_off<W: Write>(options: Options, writer: &mut Device<W>) -> Result<(), Fault>
+pub fn turn_off<W: Write>(options: Options, writer: &mut Device<W>) -> Result<(), Fault>
     ensures printed { OnOk result (Appends (W.contents writer.old.inner) (W.contents writer.new.inner)
         (color_off options)) }
     ensures error { IfErr result (IsWriteFault writer.new.failure) }

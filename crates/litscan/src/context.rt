@@ -1,21 +1,26 @@
-//! The scan that prints selected lines with the lines around them. It reads line by line, and holds lines until it is
-//! known whether a line after them is selected.
-ghost use Rattle.std.specs.Prelude.{◌≡◌, ◌<◌, ◌+◌, ◌-◌, ◌^◌, ◌++◌, ◌&&◌, ◌⊎◌, ℕ, List, [], length, map};
-ghost use Rattle.std.specs.Prelude.{IfErr, IfOk, OnOk, if◌then◌else◌, false, nat_lt, true};
-ghost use Rattle.std.specs.Io.KnownBytes.{Appends};
+//! The scan that prints selected lines with the lines around them. It passes over lines without a word where they are
+//! buffered, reads the others line by line, and holds lines until it is known whether a line after them is selected.
+ghost use Rattle.std.specs.Prelude.{◌≡◌, ◌<◌, ◌≤◌, ◌+◌, ◌-◌, ◌^◌, ◌++◌, ◌&&◌, ◌⊎◌, ℕ, List, [], length, map};
+ghost use Rattle.std.specs.Prelude.{IfErr, IfOk, OnOk, if◌then◌else◌, false, nat_lt, not, take, true};
+ghost use Rattle.std.specs.Io.KnownBytes.{Appends, Consumes, Keeps};
 ghost use Rattle.literal_base.specs.declared.packed.MatchKind.TheVariants.{LeftmostLongest};
 ghost use Rattle.litscan.specs.Context.{Mark, PrintsGroups, has_context, lines_after, near, printed_separator};
-ghost use Rattle.litscan.specs.Fault.{IsWriteFault};
-ghost use Rattle.litscan.specs.Inside.Groups.{Follows, GoesOn, IsWell, held_of, next_number, next_offset};
+ghost use Rattle.litscan.specs.Fault.{IsWriteFault, StopsRead};
+ghost use Rattle.litscan.specs.Inside.Groups.{Follows, GoesOn, IsWell, PassesAhead, PassesOver, held_of, next_number};
+ghost use Rattle.litscan.specs.Inside.Groups.{next_offset};
+ghost use Rattle.litscan.specs.Inside.Passed.{EndsLine};
+ghost use Rattle.litscan.specs.Lines.{lines_of, with_end};
+ghost use Rattle.std.specs.List.{flat_map};
 ghost use Rattle.litscan.specs.Printed.{CannotRead, Reads, ReadsTooMany, StopsScan};
 ghost use Rattle.litscan.specs.Scans.{Scans, is_all};
 ghost use Rattle.literal_search.specs.SearchValue.{SearchValue};
 ghost use Rattle.litscan.specs.declared.fault.Fault.TheVariants.{OutOfMemory};
 
 use crate::color::{COLON, print_colored};
-use crate::device::{Device, ReadsAhead, flush_line, read_line};
+use crate::device::{Device, ReadsAhead, flush_before_wait, flush_line, read_line};
 use crate::fault::Fault;
 use crate::options::{Options, is_enough};
+use crate::passed::{Gap, Passed, first_end, look_ahead, start_of_last};
 use crate::printing::{print_found, print_near};
 use crate::selected::{Scanned, counts, end_behind, failed_behind};
 use literal_search::Search;
@@ -48,11 +53,19 @@ pub fn scan_with_context<R: BufRead + ReadsAhead, W: Write>(
 {
     let mut context = Context::new(alloc, any);
     let (mut count, mut offset) = (0, 0);
+    let mut gap = Gap::new(options, search);
     loop {
         let enough = is_enough(options.limit(), count);
-        if enough && !context.is_due() {
+        if context.is_done(enough) {
             return Ok(Scanned::whole(count));
         }
+        let far = gap.is_long();
+        let passed = context.pass_ahead(alloc, search, options, far, offset, reader, writer);
+        let passed = match passed {
+            Ok(passed) => passed,
+            Err(fault) => return failed_behind(count, fault, reader.failure()),
+        };
+        offset += passed.bytes as u64;
         let mut line = Vec::new(alloc);
         let fed = match read_line(options, reader, &mut line, writer) {
             Ok(fed) => fed,
@@ -72,6 +85,7 @@ pub fn scan_with_context<R: BufRead + ReadsAhead, W: Write>(
         }
         flush_line(options, writer)?;
         count += u64::from(to_count);
+        gap = gap.with(passed.lines, false).with(1, to_count);
         if !fed {
             return Ok(Scanned::whole(count));
         }
@@ -121,6 +135,147 @@ impl Context {
         ensures { result ≡ nat_lt 0 self.now.due }
     {
         self.due > 0
+    }
+
+    /// Whether no line is left to read: enough are selected, and none is due.
+    fn is_done(&self, enough: bool) -> bool
+        ensures { result ≡ (enough && not (nat_lt 0 self.now.due)) }
+    {
+        enough && !self.is_due()
+    }
+
+    /// Passes over the buffered lines before the first one with a word, unless they are selected or due. They begin at
+    /// this offset of the text. `far` says whether it looks at more than the first line.
+    fn pass_ahead<R: BufRead + ReadsAhead, W: Write>(
+        &mut self,
+        alloc: Global,
+        search: &Search,
+        options: Options,
+        far: bool,
+        offset: u64,
+        reader: &mut Device<R>,
+        writer: &mut Device<W>,
+    ) -> Result<Passed, Fault>
+        requires well { IsWell options self.old }
+        requires number { next_number self.old ≤ offset + 1 }
+        requires offset { next_offset self.old ≡ offset }
+        ensures passed { IfOk result (λ passed. (lines : List (List ℕ))
+            × Consumes (R.remaining reader.old.inner) (R.remaining reader.new.inner)
+            (flat_map (with_end options.line_end) lines)
+            × PassesAhead search.now options offset self.old self.new passed lines) }
+        ensures kept { Keeps (W.contents writer.old.inner) (W.contents writer.new.inner) }
+        ensures error { IfErr result (StopsRead reader.new.failure writer.new.failure) }
+    {
+        if options.others || self.is_due() {
+            return Ok(Passed::none());
+        }
+        flush_before_wait(options.line_end, reader, writer)?;
+        let passed = match reader.inner.fill_buf() {
+            Ok(bytes) => self.pass_buffered(alloc, search, options, far, offset, bytes),
+            Err(error) => {
+                reader.after_fill(error)?;
+                return Ok(Passed::none());
+            }
+        };
+        match passed {
+            Ok(passed) => {
+                reader.inner.consume(passed.bytes);
+                Ok(passed)
+            }
+            Err(fault) => Err(reader.stopped_by(fault)),
+        }
+    }
+
+    /// Passes over the lines of buffered bytes before the first one with a word. It passes over none if the offset
+    /// after these bytes, and two more, reaches 2^64.
+    fn pass_buffered(
+        &mut self,
+        alloc: Global,
+        search: &Search,
+        options: Options,
+        far: bool,
+        offset: u64,
+        bytes: &[u8],
+    ) -> Result<Passed, Fault>
+        requires others { options.others ≡ false }
+        requires due { self.old.due ≡ 0 }
+        requires well { IsWell options self.old }
+        requires number { next_number self.old ≤ offset + 1 }
+        requires offset { next_offset self.old ≡ offset }
+        ensures passed { IfOk result (λ passed. (lines : List (List ℕ))
+            × (take passed.bytes bytes.now ≡ flat_map (with_end options.line_end) lines)
+            × PassesAhead search.now options offset self.old self.new passed lines) }
+        ensures inside { IfOk result (λ passed. passed.bytes ≤ length bytes.now) }
+        ensures error { IfErr result (λ fault. fault ≡ OutOfMemory) }
+    {
+        let Some(_) = end_behind(offset, bytes, 1) else {
+            return Ok(Passed::none());
+        };
+        let passed = look_ahead(options, search, far, bytes);
+        self.pass(alloc, options, offset, passed.lines, &bytes[..passed.bytes])?;
+        Ok(passed)
+    }
+
+    /// Passes over whole lines that are neither selected nor due. It holds the last ones, and leaves the others out.
+    fn pass(
+        &mut self,
+        alloc: Global,
+        options: Options,
+        offset: u64,
+        lines: usize,
+        bytes: &[u8],
+    ) -> Result<(), Fault>
+        requires due { self.old.due ≡ 0 }
+        requires well { IsWell options self.old }
+        requires whole { EndsLine options.line_end bytes.now }
+        requires lines { lines ≡ length (lines_of options.line_end bytes.now) }
+        requires offset { next_offset self.old ≡ offset }
+        requires number { next_number self.old + length bytes.now < 2 ^ 64 }
+        requires small { offset + length bytes.now < 2 ^ 64 }
+        ensures over { OnOk result (PassesOver options self.old self.new (lines_of options.line_end bytes.now)) }
+        ensures error { IfErr result (λ fault. fault ≡ OutOfMemory) }
+    {
+        let before = options.lines_before();
+        if lines as u64 <= before {
+            return self.hold_each(alloc, options, bytes);
+        }
+        let kept = before as usize;
+        let start = start_of_last(options.line_end, kept, bytes);
+        self.leave_out(lines - kept, offset + start as u64);
+        self.hold_each(alloc, options, &bytes[start..])
+    }
+
+    /// Leaves out the held lines and so many more. The next line begins at this offset of the text.
+    fn leave_out(&mut self, lines: usize, offset: u64)
+        requires number { next_number self.old + lines < 2 ^ 64 }
+        ensures held { self.new.held.items ≡ [] }
+        ensures rest { self.new ≡ record self.old
+            { held = self.new.held; number = next_number self.old + lines; offset = offset; apart = true } }
+    {
+        self.number += self.held.len() as u64 + lines as u64;
+        self.offset = offset;
+        self.held.clear();
+        self.apart = true;
+    }
+
+    /// Holds each line of bytes that are whole lines, neither selected nor due.
+    fn hold_each(&mut self, alloc: Global, options: Options, bytes: &[u8]) -> Result<(), Fault>
+        requires due { self.old.due ≡ 0 }
+        requires well { IsWell options self.old }
+        requires whole { EndsLine options.line_end bytes.now }
+        requires number { next_number self.old + length bytes.now < 2 ^ 64 }
+        requires offset { next_offset self.old + length bytes.now < 2 ^ 64 }
+        ensures over { OnOk result (PassesOver options self.old self.new (lines_of options.line_end bytes.now)) }
+        ensures error { IfErr result (λ fault. fault ≡ OutOfMemory) }
+    {
+        let mut at = 0;
+        while at < bytes.len() {
+            let end = first_end(options.line_end, bytes, at);
+            let line = Vec::from_slice(alloc, &bytes[at..end]).or(Err(Fault::OutOfMemory))?;
+            self.hold(options, line)?;
+            at = end + 1;
+        }
+        Ok(())
     }
 
     /// Handles the next line, selected or not, and prints the lines now known to be printed.

@@ -212,6 +212,17 @@ pub fn tell_empty_line(rt: &HostRuntime, name: &[u8], line: usize) {
     let _ = writeln!(log, ":{line}: empty word");
 }
 
+/// Reports on standard error that each line of a file of words ends in a carriage return.
+pub fn tell_return_lines(rt: &HostRuntime, name: &[u8]) {
+    tell_around(
+        rt,
+        "litscan: ",
+        name,
+        ": warning: ",
+        "each line ends in a carriage return; see --crlf",
+    );
+}
+
 /// The name of a file of words as it is shown in messages.
 pub fn shown_name(name: &[u8]) -> &[u8]
     ensures { result.now ≡ input_name (codes "(standard input)") name.now }

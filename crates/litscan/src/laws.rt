@@ -5,7 +5,7 @@ ghost use Rattle.std.specs.Char.{is_ascii_digit};
 ghost use Rattle.std.specs.List.{flat_map, list_any};
 ghost use Rattle.literal_base.specs.Occurs.{AreEqualBytes, one_occurs, pattern_at, rest_from};
 ghost use Rattle.literal_search.specs.SearchValue.{SearchValue};
-ghost use Rattle.litscan.specs.Asked.{OccursAsked, one_asked};
+ghost use Rattle.litscan.specs.Asked.{IsLineOf, OccursAsked, one_asked};
 ghost use Rattle.litscan.specs.Context.{Mark, PrintsGroups, PrintsMarked, is_printed, left_out, printed_between};
 ghost use Rattle.litscan.specs.Lines.{AreLinesOf, lines_of, with_end};
 ghost use Rattle.litscan.specs.Names.{option_named};
@@ -53,7 +53,8 @@ pub fn groups_are_printed_in_turn()
 {}
 
 /// The test is true exactly if a word has an allowed occurrence in the line. With neither `-w` nor `-x`, this means
-/// that a word occurs. With `-x`, it means that the line is one of the words, up to ASCII case with `-i`.
+/// that a word occurs. With `-x`, it means that the line is one of the words, up to ASCII case with `-i`, and
+/// with `--crlf` up to a carriage return at its end.
 pub fn lines_are_asked_for()
     ensures occurs { (search : SearchValue) (options : Options) (line : List ℕ)
         → (one_asked search options line ≡ true)
@@ -63,7 +64,8 @@ pub fn lines_are_asked_for()
         → one_asked search options line ≡ one_occurs search.query.patterns search.ignore_case line }
     ensures whole { (search : SearchValue) (options : Options) (line : List ℕ) → options.whole ≡ true
         → (one_asked search options line ≡ true) ↔ ((i : ℕ) × (i < length search.query.patterns)
-        × AreEqualBytes search.ignore_case line (pattern_at search.query.patterns i)) }
+        × (text : List ℕ) × IsLineOf options line text
+        × AreEqualBytes search.ignore_case text (pattern_at search.query.patterns i)) }
 {}
 
 /// Joined letters mean the same as separate ones, if the first takes no argument and is not a digit. A long name means

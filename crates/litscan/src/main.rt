@@ -82,11 +82,15 @@ Prints the lines of each FILE in which one of the words occurs, as grep -F does.
   -z, --null-data               end lines at a zero byte, in place of a line feed
   -Z, --null                    print a zero byte after the name of a file, in place of a colon or a line feed
   -o, --only-matching           print each match on a line of its own, instead of the lines
+  --mask=BYTE                   print BYTE for each byte of a match
+  --which-word                  print the number of its word, from 1, for each match, as -o prints the match
   -c, --count                   print the number of selected lines
   -l, --files-with-matches      print the names of the files with a selected line
   -L, --files-without-match     print the names of the files without one
   --color[=WHEN], --colour      print matches, names and numbers in colours: WHEN is always, never, or auto
   --line-buffered               write each line at once
+  --crlf                        take a carriage return at the end of a line, also of words, as part of its end
+  --skip-blank                  skip empty lines among the words, in place of an error
   -q, --quiet, --silent         print nothing on standard output
   -s, --no-messages             print no messages about files that cannot be read
   -F, -u, -U, --fixed-strings, --unix-byte-offsets, --binary  change nothing
@@ -148,7 +152,7 @@ fn explain(rt: &HostRuntime, text: &str) -> Result<u8, Fault> {
 /// flushes it.
 fn search_files(rt: &HostRuntime, request: &mut Request) -> Result<u8, Fault> {
     let options = request.options;
-    let words = words_of(rt, request.sources.as_slice())?;
+    let words = words_of(rt, options, request.sources.as_slice())?;
     let search = search_for(rt.alloc(), options.ignore_case, words.as_slice())?;
     let names = mem::replace(&mut request.files, Vec::new(rt.alloc()));
     let choices = with_patterns(rt, request.choices.as_slice())?;

@@ -28,6 +28,8 @@ pub enum Setting {
     Rule(Rule),
     /// `--label`: the name of standard input.
     Label,
+    /// `--mask`: the byte that is printed for each byte of a match.
+    Mask,
     /// `--group-separator`: the separator between groups of lines.
     Separator,
 }
@@ -41,6 +43,12 @@ pub enum Switch {
     MindCase,
     /// `--no-group-separator`: nothing is printed between groups of lines.
     NoSeparator,
+    /// `--crlf`: a carriage return at the end of a line belongs to its end.
+    Crlf,
+    /// `--skip-blank`: empty lines among the words are skipped.
+    SkipBlank,
+    /// `--which-word`: the number of its word is printed for each match.
+    WhichWord,
 }
 
 /// The option of a long name.
@@ -57,7 +65,7 @@ pub enum Long {
 }
 
 /// The long names, in the order in which a message lists them.
-const LONG_NAMES: [(&str, Long); 46] = [
+const LONG_NAMES: [(&str, Long); 50] = [
     ("--fixed-strings", Long::Letter(b'F')),
     ("--after-context", Long::Letter(b'A')),
     ("--before-context", Long::Letter(b'B')),
@@ -67,6 +75,7 @@ const LONG_NAMES: [(&str, Long); 46] = [
     ("--color", Long::Color),
     ("--colour", Long::Color),
     ("--count", Long::Letter(b'c')),
+    ("--crlf", Long::Switch(Switch::Crlf)),
     ("--devices", Long::Letter(b'D')),
     ("--directories", Long::Letter(b'd')),
     ("--exclude", Long::Setting(Setting::Rule(Rule::Exclude))),
@@ -91,6 +100,7 @@ const LONG_NAMES: [(&str, Long); 46] = [
     ("--line-buffered", Long::Switch(Switch::LineBuffered)),
     ("--line-number", Long::Letter(b'n')),
     ("--line-regexp", Long::Letter(b'x')),
+    ("--mask", Long::Setting(Setting::Mask)),
     ("--max-count", Long::Letter(b'm')),
     ("--no-filename", Long::Letter(b'h')),
     ("--no-group-separator", Long::Switch(Switch::NoSeparator)),
@@ -104,10 +114,12 @@ const LONG_NAMES: [(&str, Long); 46] = [
     ("--regexp", Long::Letter(b'e')),
     ("--invert-match", Long::Letter(b'v')),
     ("--silent", Long::Letter(b'q')),
+    ("--skip-blank", Long::Switch(Switch::SkipBlank)),
     ("--text", Long::Letter(b'a')),
     ("--binary", Long::Letter(b'U')),
     ("--unix-byte-offsets", Long::Letter(b'u')),
     ("--version", Long::Letter(b'V')),
+    ("--which-word", Long::Switch(Switch::WhichWord)),
     ("--with-filename", Long::Letter(b'H')),
     ("--word-regexp", Long::Letter(b'w')),
 ];

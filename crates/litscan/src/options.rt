@@ -3,11 +3,11 @@ ghost use Rattle.std.specs.Prelude.{◌≡◌, Some, true, unwrap_or};
 ghost use Rattle.std.specs.Char.{is_ascii_digit};
 ghost use Rattle.std.specs.Str.{bytes_eq};
 ghost use Rattle.litscan.specs.Context.{as_context, has_context, lines_after, lines_before};
-ghost use Rattle.litscan.specs.Options.{color_named, is_colored, is_enough, is_silent, is_walking};
-ghost use Rattle.litscan.specs.Options.{limit_of, no_options, number_of, on_output};
+ghost use Rattle.litscan.specs.Options.{color_named, is_colored, is_enough, is_marked, is_replaced, is_silent};
+ghost use Rattle.litscan.specs.Options.{is_walking, limit_of, no_options, number_of, on_output};
 ghost use Rattle.litscan.specs.Options.{takes_action, takes_argument, takes_number, with_action, with_binary_files};
 ghost use Rattle.litscan.specs.Options.{with_digit, with_digit_of_lines, with_letter, with_number, with_plain_letter};
-ghost use Rattle.litscan.specs.Options.{skips_zero, with_switch};
+ghost use Rattle.litscan.specs.Options.{skips_zero, with_mask, with_switch};
 ghost use Rattle.litscan.specs.Printed.{has_head};
 
 use crate::names::Switch;
@@ -21,6 +21,17 @@ pub enum Color {
     Auto,
     /// Always.
     Always,
+}
+
+/// What is printed for a match.
+#[derive(Clone, Copy)]
+pub enum Shown {
+    /// The match.
+    Match,
+    /// This byte for each byte of the match.
+    Mask(u8),
+    /// The number of the word that matches, from 1.
+    Number,
 }
 
 /// How a directory is handled.
@@ -76,6 +87,8 @@ pub struct Options {
     pub listed: Option<bool>,
     /// `--color`: when names, numbers and matches are printed in colour.
     pub color: Color,
+    /// `--mask`, `--which-word`: what is printed for a match.
+    pub shown: Shown,
     /// `--line-buffered`: whether each line is written at once.
     pub line_buffered: bool,
     /// `-q`: whether nothing is printed.
@@ -96,6 +109,10 @@ pub struct Options {
     pub separated: bool,
     /// Whether a dash is printed instead of each colon, as for a context line.
     pub dashed: bool,
+    /// `--crlf`: whether a carriage return at the end of a line belongs to its end.
+    pub crlf: bool,
+    /// `--skip-blank`: whether empty lines among the words are skipped.
+    pub skip_blank: bool,
     /// `--help`: whether the help text is printed.
     pub help: bool,
     /// `-V`: whether the version is printed.
@@ -127,6 +144,7 @@ impl Options {
             width: 0,
             listed: None,
             color: Color::Never,
+            shown: Shown::Match,
             line_buffered: false,
             quiet: false,
             untold: false,
@@ -137,6 +155,8 @@ impl Options {
             in_number: false,
             separated: true,
             dashed: false,
+            crlf: false,
+            skip_blank: false,
             help: false,
             version: false,
         }
@@ -221,6 +241,12 @@ impl Options {
             Switch::LineBuffered => options.line_buffered = true,
             Switch::MindCase => options.ignore_case = false,
             Switch::NoSeparator => options.separated = false,
+            Switch::Crlf => options.crlf = true,
+            Switch::SkipBlank => options.skip_blank = true,
+            Switch::WhichWord => {
+                options.only = true;
+                options.shown = Shown::Number;
+            }
         }
         options
     }
@@ -266,6 +292,18 @@ impl Options {
             return self.with_letter(b'I');
         }
         None
+    }
+
+    /// Sets the byte that is printed for each byte of a match. None if the argument is not one byte.
+    pub fn with_mask(self, mask: &[u8]) -> Option<Options>
+        ensures { result ≡ with_mask self mask.now }
+    {
+        if mask.len() != 1 {
+            return None;
+        }
+        let mut options = self;
+        options.shown = Shown::Mask(mask[0]);
+        Some(options)
     }
 
     /// Sets the least width of a printed number or offset.
@@ -321,6 +359,23 @@ impl Options {
             Color::Always => true,
             _ => false,
         }
+    }
+
+    /// Whether anything else than a match is printed for it.
+    pub fn is_replaced(self) -> bool
+        ensures { result ≡ is_replaced self.shown }
+    {
+        match self.shown {
+            Shown::Match => false,
+            Shown::Mask(_) | Shown::Number => true,
+        }
+    }
+
+    /// Whether a line is printed otherwise than it is if it has a match.
+    pub fn is_marked(self) -> bool
+        ensures { result ≡ is_marked self }
+    {
+        self.is_colored() || self.is_replaced()
     }
 
     /// Whether a file with a zero byte is searched as if it were empty, with `-I`, unless a zero byte ends lines.

@@ -1,9 +1,11 @@
 //! Skips many lines without a match at once: those before the first match in the buffered bytes.
-ghost use Rattle.std.specs.Prelude.{◌≡◌, ◌⊎◌, ◌≢◌, ◌+◌, ◌-◌, ◌<◌, ◌≤◌, ◌==◌, ◌^◌, None, ℕ, MatchOption, ⊤};
-ghost use Rattle.std.specs.Prelude.{length, slice_index};
+ghost use Rattle.std.specs.Prelude.{◌≡◌, ◌⊎◌, ◌≢◌, ◌+◌, ◌-◌, ◌<◌, ◌≤◌, ◌==◌, ◌^◌, None, ℕ, MatchOption, ⊤, true};
+ghost use Rattle.std.specs.Prelude.{drop, length, slice_index, take};
 ghost use Rattle.std.specs.List.{count_by};
-ghost use Rattle.litscan.specs.Inside.Passed.{IsAhead, LiesInLine};
+ghost use Rattle.litscan.specs.Inside.Passed.{EndsLine, IsAhead, LiesInLine};
+ghost use Rattle.litscan.specs.Lines.{lines_of};
 
+use crate::options::Options;
 use literal_search::{Match, Search};
 use std::simd::prelude::*;
 
@@ -13,6 +15,16 @@ const LANES: usize = 16;
 /// The ends of lines are counted in parts of this many bytes, so that each count fits into a byte: whole vectors of 16
 /// or 32 bytes.
 const PART: usize = 224;
+
+/// Words longer than this are long.
+const SHORT: usize = 32;
+
+/// After this many lines in a row, with the last one, without another match, a scan for long words looks at all
+/// buffered lines.
+const LONG: usize = 3;
+
+/// The same with `-x` and several words: a look at the lengths of lines takes less time than one for frequent words.
+const LONG_WHOLE: usize = 16;
 
 /// Skipped lines without a match, and possibly the next line.
 #[derive(Clone, Copy)]
@@ -25,22 +37,115 @@ pub struct Passed {
     pub next: Option<usize>,
 }
 
+impl Passed {
+    /// No line is skipped.
+    pub fn none() -> Passed
+        ensures { result ≡ record { lines = 0; bytes = 0; next = None } }
+    {
+        Passed {
+            lines: 0,
+            bytes: 0,
+            next: None,
+        }
+    }
+}
+
+/// How many lines lie between those with a match, the last time and now. Where words are long, a look at many lines for
+/// a match in the next one costs much more than a look at that line.
+#[derive(Clone, Copy)]
+pub struct Gap {
+    now: usize,
+    before: usize,
+    /// From how many lines on it is long.
+    long: usize,
+}
+
+impl Gap {
+    /// The gap at the start of a text. It is long, so the scan begins by looking far.
+    pub fn new(options: Options, search: &Search) -> Gap {
+        let long = if options.whole && search.patterns_len() > 1 {
+            LONG_WHOLE
+        } else if search.max_pattern_len() > SHORT {
+            LONG
+        } else {
+            0
+        };
+        Gap {
+            now: long,
+            before: 0,
+            long,
+        }
+    }
+
+    /// The gap after so many lines more, of which the last one has a match or not.
+    pub fn with(self, lines: usize, found: bool) -> Gap {
+        let now = self.now.saturating_add(lines);
+        if found {
+            return Gap {
+                now: 0,
+                before: now,
+                ..self
+            };
+        }
+        Gap { now, ..self }
+    }
+
+    /// Whether looking at all buffered lines is likely to be faster than looking at the next one.
+    pub fn is_long(self) -> bool {
+        self.now.max(self.before) >= self.long
+    }
+}
+
 /// The lines before the first match in buffered bytes, and the line of that match if it is there as a whole. It looks
-/// at all the bytes (`far`), or only at the first line.
-pub fn look_ahead(line_end: u8, search: &Search, far: bool, bytes: &[u8]) -> Passed
-    ensures { IsAhead line_end search.now bytes.now result }
+/// at all the bytes (`far`), or only at the first line, or with `-x` at the lengths of lines.
+pub fn look_ahead(options: Options, search: &Search, far: bool, bytes: &[u8]) -> Passed
+    ensures { IsAhead options.line_end search.now options bytes.now result }
 {
     if far {
-        return look_over(line_end, search, bytes);
+        return look_over(options, search, bytes);
     }
-    let end = bytes.len().min(first_end(line_end, bytes, 0) + 1);
-    look_over(line_end, search, &bytes[..end])
+    if options.whole {
+        return look_for_len(options, search, bytes);
+    }
+    let end = bytes.len().min(first_end(options.line_end, bytes, 0) + 1);
+    look_over(options, search, &bytes[..end])
+}
+
+/// With `-x`: the lines before the first one that is as long as a word may be, and that line.
+fn look_for_len(options: Options, search: &Search, bytes: &[u8]) -> Passed
+    requires { options.whole ≡ true }
+    ensures { IsAhead options.line_end search.now options bytes.now result }
+{
+    let most = search.max_pattern_len();
+    let (mut lines, mut at) = (0, 0);
+    while at < bytes.len() {
+        let end = first_end(options.line_end, bytes, at);
+        if end == bytes.len() {
+            break;
+        }
+        // (with `--crlf` a carriage return may follow the word)
+        if (end - at).saturating_sub(1) <= most {
+            return Passed {
+                lines,
+                bytes: at,
+                next: Some(end - at),
+            };
+        }
+        lines += 1;
+        at = end + 1;
+    }
+    Passed {
+        lines,
+        bytes: at,
+        next: None,
+    }
 }
 
 /// The same at all the bytes.
-fn look_over(line_end: u8, search: &Search, bytes: &[u8]) -> Passed
-    ensures { IsAhead line_end search.now bytes.now result }
+fn look_over(options: Options, search: &Search, bytes: &[u8]) -> Passed
+    ensures { IsAhead options.line_end search.now options bytes.now result }
 {
+    let line_end = options.line_end;
     let Some(found) = search.find(bytes) else {
         let end = end_of_lines(line_end, bytes, bytes.len());
         return Passed {
@@ -73,7 +178,7 @@ fn length_from(line_end: u8, bytes: &[u8], start: usize, found: Match) -> Option
 }
 
 /// The index of the first end of a line at or after `from`, or else the length of the bytes.
-fn first_end(line_end: u8, bytes: &[u8], from: usize) -> usize
+pub fn first_end(line_end: u8, bytes: &[u8], from: usize) -> usize
     requires { from ≤ length bytes.now }
     ensures inside { (from ≤ result) × (result ≤ length bytes.now) }
     ensures none { (k : ℕ) → from ≤ k → k < result → slice_index bytes.now k ≢ line_end }
@@ -132,6 +237,22 @@ fn last_of_few(line_end: u8, bytes: &[u8], place: usize) -> usize
         }
     }
     0
+}
+
+/// The index at which the last `count` lines begin. The bytes are whole lines, at least `count` of them.
+pub fn start_of_last(line_end: u8, count: usize, bytes: &[u8]) -> usize
+    requires whole { EndsLine line_end bytes.now }
+    requires enough { count ≤ length (lines_of line_end bytes.now) }
+    ensures inside { result ≤ length bytes.now }
+    ensures front { EndsLine line_end (take result bytes.now) }
+    ensures last { EndsLine line_end (drop result bytes.now) }
+    ensures count { length (lines_of line_end (drop result bytes.now)) ≡ count }
+{
+    let mut start = bytes.len();
+    for _ in 0..count {
+        start = end_of_lines(line_end, bytes, start - 1);
+    }
+    start
 }
 
 /// How many of 16 bytes come before the first that ends a line.

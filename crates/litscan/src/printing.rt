@@ -1,22 +1,23 @@
 //! Prints lines and matches.
-ghost use Rattle.std.specs.Prelude.{◌≡◌, ◌<◌, ◌+◌, ◌^◌, ℕ, List, length, min};
+ghost use Rattle.std.specs.Prelude.{◌≡◌, ◌<◌, ◌+◌, ◌^◌, ℕ, List, length, min, replicate, slice_range, true};
 ghost use Rattle.std.specs.Prelude.{IfErr, IfOk, OnOk};
 ghost use Rattle.std.specs.Io.KnownBytes.{Appends};
 ghost use Rattle.literal_base.specs.MatchValue.{MatchValue};
+ghost use Rattle.literal_base.specs.Occurs.{IsValidSpan, between};
 ghost use Rattle.literal_base.specs.declared.packed.MatchKind.TheVariants.{LeftmostLongest};
 ghost use Rattle.litscan.specs.Asked.{AreMatches};
 ghost use Rattle.litscan.specs.Context.{PrintsNear};
 ghost use Rattle.litscan.specs.Fault.{IsWriteFault};
-ghost use Rattle.litscan.specs.Options.{is_colored};
+ghost use Rattle.litscan.specs.Options.{is_marked};
 ghost use Rattle.litscan.specs.Printed.{PrintsFound, PrintsWhole, marked_from, printed_head, printed_match};
 ghost use Rattle.litscan.specs.Printed.{printed_front, printed_matches, printed_name, printed_part, printed_tab};
 
 use crate::asked::next_asked;
-use crate::color::{MATCH, NAME, print_colon, print_colored, print_number};
+use crate::color::{MATCH, NAME, print_colon, print_colored, print_number, turn_off, turn_on};
 use crate::device::Device;
 use crate::fault::Fault;
-use crate::options::Options;
-use literal_search::Search;
+use crate::options::{Options, Shown};
+use literal_search::{Match, Search};
 use std::io::Write;
 
 /// Prints a selected line: the whole line, or with `-o` its matches.
@@ -43,7 +44,7 @@ pub fn print_found<W: Write>(
     print_line(search, options, name, number, offset, line, writer)
 }
 
-/// Prints a context line. It has matches to print only with `-v`.
+/// Prints a context line. With `-o` it has matches to print only with `-v`.
 pub fn print_near<W: Write>(
     search: &Search,
     options: Options,
@@ -66,6 +67,9 @@ pub fn print_near<W: Write>(
     }
     if options.only {
         return Ok(());
+    }
+    if options.is_replaced() {
+        return print_with_matches(search, near, name, number, offset, line, writer);
     }
     print_part(near, name, number, offset, line, writer)
 }
@@ -93,7 +97,7 @@ pub fn print_matches<W: Write>(
     let mut starts = search.starts(line);
     while let Some(found) = next_asked(search, options, line, from, &mut starts) {
         let start = offset + found.start() as u64;
-        print_match(options, name, number, start, found.span().of(line), writer)?;
+        print_match(options, name, number, start, line, found, writer)?;
         count = 1;
         from = found.end();
     }
@@ -106,19 +110,58 @@ fn print_match<W: Write>(
     name: &[u8],
     number: u64,
     offset: u64,
-    bytes: &[u8],
+    line: &[u8],
+    found: Match,
     writer: &mut Device<W>,
 ) -> Result<(), Fault>
+    requires { IsValidSpan line.now (between found.start found.end) }
     ensures printed { OnOk result (Appends (W.contents writer.old.inner) (W.contents writer.new.inner)
-        (printed_part options name.now number offset bytes.now (printed_match options bytes.now))) }
+        (printed_part options name.now number offset (slice_range line.now found.start found.end)
+        (printed_match options line.now found))) }
     ensures error { IfErr result (IsWriteFault writer.new.failure) }
 {
-    print_head(options, name, number, offset, bytes, writer)?;
-    print_colored(options, MATCH, bytes, writer)?;
+    print_head(options, name, number, offset, found.span().of(line), writer)?;
+    print_shown(options, line, found, writer)?;
     writer.write_all(&[options.line_end])
 }
 
-/// Prints a selected line, with its matches in colour if colours are requested.
+/// Prints what is shown for a match, in colour if colours are requested.
+fn print_shown<W: Write>(
+    options: Options,
+    line: &[u8],
+    found: Match,
+    writer: &mut Device<W>,
+) -> Result<(), Fault>
+    requires { IsValidSpan line.now (between found.start found.end) }
+    ensures printed { OnOk result (Appends (W.contents writer.old.inner) (W.contents writer.new.inner)
+        (printed_match options line.now found)) }
+    ensures error { IfErr result (IsWriteFault writer.new.failure) }
+{
+    turn_on(options, MATCH, writer)?;
+    match options.shown {
+        Shown::Match => writer.write_all(found.span().of(line))?,
+        Shown::Mask(byte) => print_mask(byte, found.span().len(), writer)?,
+        Shown::Number => {
+            let number = found.pattern().one_more();
+            write!(writer, "{number}")?;
+        }
+    }
+    turn_off(options, writer)
+}
+
+/// Prints a byte so many times.
+fn print_mask<W: Write>(byte: u8, len: usize, writer: &mut Device<W>) -> Result<(), Fault>
+    ensures printed { OnOk result (Appends (W.contents writer.old.inner) (W.contents writer.new.inner)
+        (replicate len byte)) }
+    ensures error { IfErr result (IsWriteFault writer.new.failure) }
+{
+    for _ in 0..len {
+        writer.write_all(&[byte])?;
+    }
+    Ok(())
+}
+
+/// Prints a selected line: as it is, or with its matches as they are shown.
 pub fn print_line<W: Write>(
     search: &Search,
     options: Options,
@@ -131,12 +174,31 @@ pub fn print_line<W: Write>(
     requires { search.now.query.kind ≡ LeftmostLongest }
     ensures printed { OnOk result ((out : List ℕ)
         × Appends (W.contents writer.old.inner) (W.contents writer.new.inner) out
-        × PrintsWhole (is_colored options) search.now options name.now number offset line.now out) }
+        × PrintsWhole (is_marked options) search.now options name.now number offset line.now out) }
     ensures error { IfErr result (IsWriteFault writer.new.failure) }
 {
-    if !options.is_colored() {
-        return print_part(options, name, number, offset, line, writer);
+    if options.is_marked() {
+        return print_with_matches(search, options, name, number, offset, line, writer);
     }
+    print_part(options, name, number, offset, line, writer)
+}
+
+/// Prints a line with its matches as they are shown.
+fn print_with_matches<W: Write>(
+    search: &Search,
+    options: Options,
+    name: &[u8],
+    number: u64,
+    offset: u64,
+    line: &[u8],
+    writer: &mut Device<W>,
+) -> Result<(), Fault>
+    requires { search.now.query.kind ≡ LeftmostLongest }
+    ensures printed { OnOk result ((out : List ℕ)
+        × Appends (W.contents writer.old.inner) (W.contents writer.new.inner) out
+        × PrintsWhole true search.now options name.now number offset line.now out) }
+    ensures error { IfErr result (IsWriteFault writer.new.failure) }
+{
     print_head(options, name, number, offset, line, writer)?;
     print_marked(search, options, line, writer)?;
     writer.write_all(&[options.line_end])
@@ -160,7 +222,7 @@ pub fn print_part<W: Write>(
     writer.write_all(&[options.line_end])
 }
 
-/// Prints a line with its matches in colour.
+/// Prints the bytes of a line, with its matches as they are shown.
 fn print_marked<W: Write>(
     search: &Search,
     options: Options,
@@ -177,7 +239,7 @@ fn print_marked<W: Write>(
     let mut starts = search.starts(line);
     while let Some(found) = next_asked(search, options, line, from, &mut starts) {
         writer.write_all(&line[from..found.start()])?;
-        print_colored(options, MATCH, found.span().of(line), writer)?;
+        print_shown(options, line, found, writer)?;
         from = found.end();
     }
     writer.write_all(&line[from..])

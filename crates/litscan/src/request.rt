@@ -261,6 +261,10 @@ impl Request {
                 Ok(())
             }
             Setting::Label => self.set_label(alloc, argument),
+            Setting::Mask => {
+                self.options = self.options.with_mask(argument).ok_or(Fault::Usage)?;
+                Ok(())
+            }
             Setting::Separator => self.set_separator(alloc, argument),
             Setting::Rule(rule) => {
                 let glob = copy_of(alloc, argument)?;

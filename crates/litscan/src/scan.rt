@@ -18,17 +18,12 @@ use crate::context::scan_with_context;
 use crate::device::{Device, ReadsAhead, flush_line, read_line};
 use crate::fault::Fault;
 use crate::options::{Options, is_enough};
+use crate::passed::Gap;
 use crate::printing::print_name;
 use crate::selected::{Scanned, end_behind, failed_behind, take_line};
 use literal_search::Search;
 use std::alloc::Global;
 use std::io::{BufRead, Write};
-
-/// Words longer than this are long.
-const SHORT: usize = 32;
-
-/// After this many lines in a row, with the last one, without another match, a scan looks at all buffered lines.
-const LONG: usize = 3;
 
 /// Reads a text, prints what the options request, with this file name, and returns the number of selected lines.
 /// Reading stops once enough lines are selected and the lines to print after the last of them are read. If a read
@@ -128,7 +123,7 @@ fn scan_lines<R: BufRead + ReadsAhead, W: Write>(
 {
     let mut line = Vec::new(alloc);
     let (mut count, mut lines, mut offset) = (0, 0, 0);
-    let mut gap = Gap::new(search);
+    let mut gap = Gap::new(options, search);
     loop {
         if is_enough(options.limit(), count) {
             return Ok(Scanned::whole(count));
@@ -161,44 +156,6 @@ fn scan_lines<R: BufRead + ReadsAhead, W: Write>(
             return Ok(Scanned::whole(count));
         }
         offset = end;
-    }
-}
-
-/// How many lines lie between those with a match, the last time and now. Where words are long, a look at many lines for
-/// a match in the next one costs much more than a look at that line.
-#[derive(Clone, Copy)]
-struct Gap {
-    now: usize,
-    before: usize,
-    has_long_words: bool,
-}
-
-impl Gap {
-    /// The gap at the start of a text. It is long, so the scan begins by looking far.
-    fn new(search: &Search) -> Gap {
-        Gap {
-            now: LONG,
-            before: 0,
-            has_long_words: search.max_pattern_len() > SHORT,
-        }
-    }
-
-    /// The gap after so many lines more, of which the last one has a match or not.
-    fn with(self, lines: usize, found: bool) -> Gap {
-        let now = self.now.saturating_add(lines);
-        if found {
-            return Gap {
-                now: 0,
-                before: now,
-                ..self
-            };
-        }
-        Gap { now, ..self }
-    }
-
-    /// Whether looking at all buffered lines is likely to be faster than looking at the next one.
-    fn is_long(self) -> bool {
-        !self.has_long_words || self.now.max(self.before) >= LONG
     }
 }
 

@@ -360,7 +360,7 @@ fn add_patterns(rt: &HostRuntime, name: &[u8], all: &mut Vec<Choice>) -> Result<
     ensures error { IfErr result StopsWords }
 {
     let mut lines = Vec::new(rt.alloc());
-    add_file(rt, name, &mut lines)?;
+    add_file(rt, Options::none(), name, &mut lines)?;
     for line in &lines {
         add_pattern(rt.alloc(), line.trim_ascii_end(), all)?;
     }

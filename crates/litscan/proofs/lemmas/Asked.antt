@@ -76,6 +76,19 @@ module _ (search : SearchValue) (options : Options) (line : List ℕ) where
         | inr not_longer ↦ omega (arith, leftmost.whole, not_longer)
       ]
 
+  -- nor is one of the same length listed before
+  pub none_before : {span : Span} {found : MatchValue} → search.query.kind ≡ LeftmostLongest
+      → IsLeftmostMatch search.query search.ignore_case line span found → (i : ℕ)
+      → Occurs search.query.patterns search.ignore_case line span i found.start → size i ≡ size found.pattern
+      → found.pattern ≤ i
+  none_before {span} {found} kind leftmost i occurs same =
+      elim (cases_lt i found.pattern) [
+        | inl before ↦
+            absurd (leftmost.best i
+            (subst (λ k. IsBetter k search.query.patterns i found.pattern) (sym kind) (inr (same, before))) occurs)
+        | inr behind ↦ behind
+      ]
+
   -- a leftmost match that is allowed is the first allowed one
   pub first_if_asked : {span : Span} {found : MatchValue} → search.query.kind ≡ LeftmostLongest
       → IsLeftmostMatch search.query search.ignore_case line span found
@@ -92,6 +105,7 @@ module _ (search : SearchValue) (options : Options) (line : List ℕ) where
           | inr behind ↦ behind
         ];
     longest = λ i o. none_longer kind leftmost i o.occurs;
+    listed = λ i o same. none_before kind leftmost i o.occurs same;
   }
 
   -- a leftmost match is the leftmost from its start on
@@ -190,6 +204,10 @@ module _ (search : SearchValue) (options : Options) (line : List ℕ) where
         let here = subst (λ at. OccursAsked search options line span i at) (place ∙ start_is) o in
         let less = is_shorter kind leftmost other i here in
         is.longest i (asked_in o (omega (arith, place)) (omega (arith, less, place, start_is, end_is)));
+    listed = λ i o same.
+        let here = subst (λ at. OccursAsked search options line span i at) (place ∙ start_is) o in
+        let less = is_shorter kind leftmost other i here in
+        is.listed i (asked_in o (omega (arith, place)) (omega (arith, less, place, start_is, end_is))) same;
   }
 
   -- the longest allowed occurrence at the start of a leftmost match that is not allowed is one of the shorter ones

@@ -31,7 +31,7 @@ some_in_reach [] counting (suc n) below = refl
 some_in_reach (line ∷ more) counting (suc n) below = some_in_reach more counting n (omega (arith, below))
 
 -- and none is among these
-none_in_reach : (held : List (List ℕ)) (counting : List Bool) (n : ℕ) → n ≤ length held
+pub none_in_reach : (held : List (List ℕ)) (counting : List Bool) (n : ℕ) → n ≤ length held
     → list_any (λ one. one) (take n (none_count held ++ counting)) ≡ false
 none_in_reach held counting zero few = refl
 none_in_reach [] counting (suc n) few = absurd (omega (arith, few))

@@ -1,29 +1,36 @@
 -- What a scan that prints groups of lines has read and printed. For `near` and `scan`.
-use Rattle.std.proofs.Common.{◌≡◌, ◌+◌, ◌-◌, ◌<◌, ◌≤◌, ◌==◌, ◌&&◌, ◌||◌, ◌++◌, ◌∷◌, ◌∙◌, [], Bool, List, None, Option}
-use Rattle.std.proofs.Common.{Some, ℕ}
+use Rattle.std.proofs.Common.{◌≡◌, ◌^◌, ◌+◌, ◌-◌, ◌<◌, ◌≤◌, ◌==◌, ◌&&◌, ◌||◌, ◌++◌, ◌∷◌, ◌∙◌, [], Bool, List}
+use Rattle.std.proofs.Common.{None, Option, Some, ℕ}
 use Rattle.std.proofs.Common.{ap, append-nil, append_assoc, arith, cond, false, inl, inr, length, length-append, map}
-use Rattle.std.proofs.Common.{not, refl}
+use Rattle.std.proofs.Common.{nat_lt, not, refl}
 use Rattle.std.proofs.Common.{if◌then◌else◌, subst, sym, true}
-use Rattle.std.proofs.KnownBytes.{Appends-kept, Appends-nil, Appends-trans}
-use Rattle.std.proofs.lemmas.Bool.{cases_Bool, cases_lt, cond-false, cond-true, eq-eqb}
+use Rattle.std.proofs.KnownBytes.{Appends-kept, Appends-nil, Appends-trans, Consumes-trans}
+use Rattle.std.proofs.lemmas.Grind.{flat_map-append}
+use Rattle.std.proofs.lemmas.List.Elements.{All-append, All-head, All-tail}
+use Rattle.std.proofs.lemmas.Bool.{cases_Bool, cases_lt, cond-false, cond-true, eq-eqb, le-ltb, lt-ltb}
 use Rattle.std.proofs.lemmas.List.{length_push, map-append}
 use Rattle.std.proofs.lemmas.List.Sums.{count_by-le-length}
-use Rattle.std.specs.Io.KnownBytes.{Appends, Keeps}
-use Rattle.std.specs.List.{count_by}
+use Rattle.std.specs.Io.KnownBytes.{Appends, Consumes, Keeps}
+use Rattle.std.specs.List.{All, count_by, flat_map}
 use Rattle.std.specs.Option.{is_some}
 use Rattle.std.specs.declared.io.ErrorKind.{ErrorKind}
 use Rattle.literal_search.specs.SearchValue.{SearchValue}
 use Rattle.litscan.specs.Context.{PrintsGroups, has_context, lines_after, lines_before, lines_behind, marks_of}
-use Rattle.litscan.specs.Inside.Groups.{GoesOn, IsWell, PrintsFrom, held_of, marks_from, none_count}
-use Rattle.litscan.specs.Lines.{lines_of}
+use Rattle.litscan.specs.Inside.Groups.{GoesOn, IsWell, PassesAhead, PassesOver, PrintsFrom, held_of, marks_from}
+use Rattle.litscan.specs.Inside.Groups.{next_number, next_offset, none_count}
+use Rattle.litscan.specs.Inside.Passed.{HasNoMatch}
+use Rattle.litscan.specs.Lines.{HasNoEnd, lines_of, with_end}
 use Rattle.litscan.specs.Options.{is_enough, is_silent, limit_of}
 use Rattle.litscan.specs.Printed.{Reads, StopsAtEnough, counts, printed_behind}
 use Rattle.litscan.specs.Scans.{PrintsRead, Scans, counting, is_all}
 use Rattle.litscan.specs.declared.context.Context.{Context}
 use Rattle.litscan.specs.declared.options.Options.{Options}
+use Rattle.litscan.specs.declared.passed.Passed.{Passed}
 use Rattle.litscan.specs.declared.selected.Scanned.{Scanned}
 use Rattle.litscan.proofs.lemmas.Groups.{none_left}
 use Rattle.litscan.proofs.lemmas.Marks.{marks_are}
+use Rattle.litscan.proofs.lemmas.Others.{counts_other}
+use Rattle.litscan.proofs.lemmas.Over.{same_length}
 use Rattle.litscan.proofs.lemmas.Printing.{count-append}
 use Rattle.litscan.proofs.lemmas.Reading.{stops_later}
 
@@ -130,6 +137,28 @@ one_part_more {search} {options} {seen} {cs} {count} {due} are line to_count nex
           }
     ]
 
+-- lines without a word were read, which do not count
+pub parts_passed : {search : SearchValue} {options : Options} {seen : List (List ℕ)} {cs : List Bool} {count due : ℕ}
+    → Parts search options seen cs count due → due ≡ 0 → is_enough (limit_of options) count ≡ false
+    → options.others ≡ false → (lines : List (List ℕ)) → All (HasNoMatch search options) lines
+    → Parts search options (seen ++ lines) (cs ++ none_count lines) count due
+parts_passed {search} {options} {seen} {cs} {count} {due} are none few kept [] words =
+    subst (λ these. Parts search options these (cs ++ []) count due) (sym (append-nil seen))
+    (subst (λ those. Parts search options seen those count due) (sym (append-nil cs)) are)
+parts_passed {search} {options} {seen} {cs} {count} {due} are none few kept (line ∷ more) words =
+    let same : count + 0 ≡ count = omega arith in
+    let uncounted : false ≡ (not (is_enough (limit_of options) count) && counts search options line) =
+    sym (ap (λ b. not b && counts search options line) few
+    ∙ counts_other search options line (All-head (HasNoMatch search options) line more words) ∙ kept) in
+    let one = one_part_more are line false due uncounted (λ enough. absurd (not_both _ enough few))
+    (omega (arith, none)) in
+    subst (λ these. Parts search options these (cs ++ false ∷ none_count more) count due)
+    (append_assoc seen (line ∷ []) more)
+    (subst (λ those. Parts search options ((seen ++ line ∷ []) ++ more) those count due)
+    (append_assoc cs (false ∷ []) (none_count more))
+    (parts_passed (subst (λ n. Parts search options (seen ++ line ∷ []) (cs ++ false ∷ []) n due) same one) none few
+    kept more (All-tail (HasNoMatch search options) line more words)))
+
 -- where lines around others are printed, lines are printed alone
 no_others : (counts quiet : Bool) (listed : Option Bool) → (counts || quiet || is_some listed) ≡ false
     → (counts ≡ false) × (listed ≡ None)
@@ -233,6 +262,40 @@ module _ {search : SearchValue} {options : Options} {separator : List ℕ} {any 
           (subst (λ bytes. groups (seen ++ line ∷ lines) (cs ++ to_count ∷ more) bytes)
           (sym (append_assoc out part rest))
           (so_far.goes_on (line ∷ lines) (to_count ∷ more) (part ++ rest) (goes_on lines more rest printed))));
+    }
+
+    parts_over : (lines : List (List ℕ)) → All (HasNoMatch search options) lines
+        → (0 < length lines → (options.others ≡ false) × (context.due ≡ 0))
+        → (is_enough (limit_of options) count ≡ true → 0 < context.due)
+        → Parts search options (seen ++ lines) (cs ++ none_count lines) count context.due
+    parts_over [] words unselected due =
+        subst (λ these. Parts search options these (cs ++ []) count context.due) (sym (append-nil seen))
+        (subst (λ those. Parts search options seen those count context.due) (sym (append-nil cs)) so_far.parts)
+    parts_over (line ∷ more) words unselected due =
+        let is = unselected (omega arith) in
+        elim (cases_Bool (is_enough (limit_of options) count)) [
+          | inl enough ↦ absurd (omega (arith, due enough, is.1))
+          | inr few ↦ parts_passed so_far.parts is.1 few is.0 (line ∷ more) words
+        ]
+
+    -- lines without a word were passed over
+    pub near_over : (lines : List (List ℕ)) (new : Context) → PassesOver options context new lines
+        → All (HasNoMatch search options) lines → (0 < length lines → (options.others ≡ false) × (context.due ≡ 0))
+        → (is_enough (limit_of options) count ≡ true → 0 < context.due)
+        → NearSoFar search options separator any name written now (seen ++ lines) (cs ++ none_count lines) out count new
+    near_over lines new over words unselected due = record {
+      parts = subst (Parts search options (seen ++ lines) (cs ++ none_count lines) count) (sym over.due_is)
+          (parts_over lines words unselected due);
+      well = over.well;
+      written_are = so_far.written_are;
+      goes_on = λ more counting rest printed.
+          let groups = λ (these : List (List ℕ)) (those : List Bool).
+          PrintsGroups search options separator name any true 1 0 these
+          (marks_from (lines_before options) (lines_after options) 0 those) (out ++ rest) in
+          subst (λ these. groups these ((cs ++ none_count lines) ++ counting)) (sym (append_assoc seen lines more))
+          (subst (groups (seen ++ (lines ++ more))) (sym (append_assoc cs (none_count lines) counting))
+          (so_far.goes_on (lines ++ more) (none_count lines ++ counting) rest
+          (over.goes_on search separator name more counting rest printed)));
     }
 
     -- what is held is left out
@@ -341,3 +404,68 @@ module _ {search : SearchValue} {options : Options} {separator : List ℕ} {any 
           ap (λ (l : List (List ℕ)). length l) so_far.parts.seen_are,
           length-append so_far.parts.front so_far.parts.behind,
         )
+
+-- the same, with what was read of known bytes
+pub record NearAt (search : SearchValue) (options : Options) (separator : List ℕ) (any : Bool) (name : List ℕ)
+    (old new written now : Option (List ℕ)) (count offset : ℕ) (context : Context) : Type 0 where
+  pub seen : List (List ℕ)
+  pub cs : List Bool
+  pub out : List ℕ
+  pub so_far : NearSoFar search options separator any name written now seen cs out count context
+  pub whole : All (HasNoEnd options.line_end) seen
+  pub read : Consumes old new (flat_map (with_end options.line_end) seen)
+  pub offset_is : offset ≡ length (flat_map (with_end options.line_end) seen)
+  pub next_offset_is : next_offset context ≡ offset
+  pub next_number_is : next_number context ≡ length seen + 1
+  pub small : offset < 2 ^ 64
+
+-- where enough lines count and the scan goes on, a line is due
+pub due_if : (enough : Bool) (due : ℕ) → (enough && not (nat_lt 0 due)) ≡ false → enough ≡ true → 0 < due
+due_if true due goes_on is =
+    elim (cases_lt 0 due) [
+      | inl some ↦ some
+      | inr none ↦ absurd (let both : true ≡ false = sym (ap not (le-ltb 0 due none)) ∙ goes_on in cc)
+    ]
+due_if false due goes_on is = absurd (cc)
+
+-- and where it ends, none is
+pub none_due : (enough : Bool) (due : ℕ) → (enough && not (nat_lt 0 due)) ≡ true → (enough ≡ true) × (due ≡ 0)
+none_due true due ends =
+    elim (cases_lt 0 due) [
+      | inl some ↦ absurd (let both : false ≡ true = sym (ap not (lt-ltb 0 due some)) ∙ ends in cc)
+      | inr none ↦ (refl, omega (arith, none))
+    ]
+none_due false due ends = absurd (cc)
+
+-- with lines without a word that were passed over
+pub near_at_over : {search : SearchValue} {options : Options} {separator : List ℕ} {any : Bool} {name : List ℕ}
+    {old new next written now kept : Option (List ℕ)} {count offset : ℕ} {context mid : Context} {passed : Passed}
+    {lines : List (List ℕ)} → NearAt search options separator any name old new written now count offset context
+    → (is_enough (limit_of options) count ≡ true → 0 < context.due)
+    → Consumes new next (flat_map (with_end options.line_end) lines)
+    → PassesAhead search options offset context mid passed lines → Keeps now kept
+    → NearAt search options separator any name old next written kept count (offset + passed.bytes) mid
+near_at_over {search} {options} {old = old} {new = new} {next = next} {kept = kept} {mid = mid} {lines = lines} at due
+    read passes keeps =
+    let all = flat_map-append (with_end options.line_end) at.seen lines in
+    let size = length-append (flat_map (with_end options.line_end) at.seen)
+    (flat_map (with_end options.line_end) lines) in
+    record {
+      seen = at.seen ++ lines;
+      cs = at.cs ++ none_count lines;
+      out = at.out;
+      so_far = near_kept (near_over at.so_far lines mid passes.over passes.are.none passes.unselected due) kept keeps;
+      whole = All-append (HasNoEnd options.line_end) at.seen lines at.whole passes.are.whole;
+      read = subst (Consumes old next) (sym all) (Consumes-trans old new next _ _ at.read read);
+      offset_is = omega (arith, at.offset_is, passes.bytes, size, ap (λ (l : List ℕ). length l) all);
+      next_offset_is =
+          omega (
+            arith,
+            passes.over.offset_is,
+            at.next_offset_is,
+            passes.bytes,
+            same_length options.line_end lines,
+          );
+      next_number_is = omega (arith, passes.over.number_is, at.next_number_is, length-append at.seen lines);
+      small = passes.small;
+    }

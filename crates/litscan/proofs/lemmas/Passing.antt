@@ -6,7 +6,7 @@ use Rattle.std.proofs.lemmas.Bool.{cases_Bool, cases_lt}
 use Rattle.std.proofs.Common.{append-nil, append_assoc, ap, arith, cond, drop, inl, inr, length-append, refl}
 use Rattle.std.proofs.Common.{slice_range, subst, sym, take, ◌∙◌}
 use Rattle.std.proofs.lemmas.Bool.{cond-false, cond-true, eq-eqb, ne_eqb}
-use Rattle.std.proofs.lemmas.List.{drop-append-le, flat_map_more, get_or-append-add, get_or-drop}
+use Rattle.std.proofs.lemmas.List.{drop-append-le, flat_map_more, get_or-drop}
 use Rattle.std.proofs.lemmas.List.{get_or-take, get_or_default, length-drop, length-take, length-take-le, length_push}
 use Rattle.std.proofs.lemmas.List.{take_more}
 use Rattle.std.proofs.lemmas.List.{drop-take, take-take}
@@ -21,8 +21,11 @@ use Rattle.literal_base.specs.Occurs.{Occurs, case_folded, pattern_at, whole_of}
 use Rattle.literal_base.specs.MatchValue.{MatchValue}
 use Rattle.literal_search.specs.SearchValue.{SearchValue}
 use Rattle.litscan.specs.Lines.{HasNoEnd, lines_of, with_end}
-use Rattle.litscan.specs.Inside.Passed.{ArePassed, HasNoWord, HasWord, IsAhead, LiesInLine, Takes, lines_read}
-use Rattle.litscan.specs.Inside.Passed.{PassesOthers, TakesLines, len_of, len_with, next_of, prints_others}
+use Rattle.litscan.specs.Inside.Groups.{IsWell, PassesAhead}
+use Rattle.litscan.specs.declared.context.Context.{Context}
+use Rattle.litscan.specs.Inside.Passed.{ArePassed, HasNoMatch, HasNoWord, HasWord, IsAhead, LiesInLine, Takes}
+use Rattle.litscan.specs.Inside.Passed.{PassesOthers, TakesLines, len_of, len_with, lines_read, next_of, printed_each}
+use Rattle.litscan.specs.Inside.Passed.{prints_others}
 use Rattle.litscan.specs.declared.buffered.Ahead.{Ahead}
 use Rattle.litscan.specs.Options.{is_enough, is_silent, limit_of}
 use Rattle.litscan.specs.Printed.{PrintsUnlessSilent, Reads, StopsAtEnough, are_enough, counts}
@@ -31,37 +34,17 @@ use Rattle.litscan.specs.declared.passed.Passed.{Passed}
 use Rattle.litscan.specs.declared.selected.Scanned.{Scanned}
 use Rattle.std.specs.Option.{IfSome, IsSome, OnSome}
 use Rattle.std.specs.declared.io.ErrorKind.{ErrorKind}
-use Rattle.litscan.proofs.lemmas.Lines.{Other, lines_are, lines_of-feeds, lines_of-split}
-use Rattle.litscan.proofs.lemmas.Others.{others_counted, others_printed}
+use Rattle.litscan.proofs.lemmas.Lines.{Other, lines_of-feeds, lines_of-split}
+use Rattle.litscan.proofs.lemmas.Others.{no_match, others_counted, others_printed}
+use Rattle.litscan.proofs.lemmas.Over.{passes_none}
 use Rattle.litscan.proofs.lemmas.Printing.{count-append, length-feeds, length-feeds_push, prints_more, prints_none}
 use Rattle.litscan.proofs.lemmas.Reading.{length-feeds_most, length-lines_read, read_all, read_more, reads_any}
 use Rattle.litscan.proofs.lemmas.Reading.{reads_front, stops_later}
+use Rattle.litscan.proofs.lemmas.Whole.{Makes, ends_front, made, makes_lines}
 
 module _ (line_end : ℕ) where
   abbrev pub is_end : ℕ → Bool
   is_end byte = byte == line_end
-
-  -- a text that is empty, or ends with the end of a line, consists of lines with an end each
-  pub made_of_lines : (text : List ℕ) → (length text ≡ 0) ⊎
-      ((0 < length text) × (get_or text (length text - 1) 0 ≡ line_end))
-      → (lines : List (List ℕ)) × All (HasNoEnd line_end) lines × (text ≡ flat_map (with_end line_end) lines)
-  made_of_lines text ends =
-      let are = lines_are line_end text in
-      (are.before, are.before_whole, by (flat_map (with_end line_end) are.before) are.last are.text_is are.last_whole)
-    where
-      by : (front last : List ℕ) → text ≡ front ++ last → HasNoEnd line_end last → text ≡ front
-      by front [] is whole = is ∙ append-nil front
-      by front (byte ∷ more) is whole =
-          let long = ap (λ (l : List ℕ). length l) is ∙ length-append front (byte ∷ more) in
-          elim ends [
-            | inl empty ↦ absurd (omega (arith, long, empty))
-            | inr feed ↦
-                let place : length text - 1 ≡ length front + length more = omega (arith, long) in
-                absurd (whole (length more) 0 (omega arith)
-                (sym (get_or-append-add front (byte ∷ more) (length more) 0)
-                ∙ ap (λ l. get_or l (length front + length more) 0) (sym is)
-                ∙ ap (λ n. get_or text n 0) (sym place) ∙ feed.1))
-          ]
 
   one_feed : (line : List ℕ) → HasNoEnd line_end line → count_by is_end (with_end line_end line) ≡ 1
   one_feed [] whole =
@@ -108,17 +91,20 @@ module _ (line_end : ℕ) where
       ∙ ap (take len) rest ∙ ap (λ k. take k (with_end line_end line)) len_is ∙ take-append_seam line (line_end ∷ [])
 
   -- so what is taken with a line is taken with a copy of it
-  pub takes_copy : (search : SearchValue) (bytes : List ℕ) (passed : Passed) (copy : List ℕ) (len : ℕ)
+  pub takes_copy : (search : SearchValue) (options : Options) (bytes : List ℕ) (passed : Passed) (copy : List ℕ)
+      (len : ℕ)
       → passed.next ≡ Some len → copy ≡ slice_range bytes passed.bytes (passed.bytes + len)
-      → (ahead : IsAhead line_end search bytes passed) → Takes line_end search passed copy (take (len_of passed) bytes)
-  takes_copy search bytes passed copy len is copied ahead =
-      subst (λ l. Takes line_end search passed l (take (len_of passed) bytes)) (sym (copied ∙ same)) ahead.1
+      → (ahead : IsAhead line_end search options bytes passed)
+      → Takes line_end search options passed copy (take (len_of passed) bytes)
+  takes_copy search options bytes passed copy len is copied ahead =
+      subst (λ l. Takes line_end search options passed l (take (len_of passed) bytes)) (sym (copied ∙ same)) ahead.1
     where
       same : slice_range bytes passed.bytes (passed.bytes + len) ≡ ahead.0
       same =
           let taken = ahead.1 in
           let word = subst (λ o. IfSome o
-          (λ n. (n ≡ length ahead.0) × HasNoEnd line_end ahead.0 × HasWord search ahead.0)) is
+          (λ n. (n ≡ length ahead.0) × HasNoEnd line_end ahead.0
+          × (options.whole ≡ false → HasWord search ahead.0))) is
           taken.next in
           line_behind bytes (flat_map (with_end line_end) taken.lines) ahead.0 passed.bytes len taken.bytes word.0
           (subst (λ o. take (len_with passed.bytes o) bytes
@@ -181,7 +167,8 @@ module _ (line_end : ℕ) where
         (λ i at below. subst (λ l. ¬ OccursIn l i at) behind (none i at below))
         (omega (arith, inside, size, length-append front (with_end line_end line))))
 
-    module _ (bytes : List ℕ) (end place lines : ℕ) (before : end ≤ place) (inside : place ≤ length bytes)
+    module _ (options : Options) (bytes : List ℕ) (end place lines : ℕ) (before : end ≤ place)
+        (inside : place ≤ length bytes)
         (feed : (end ≡ 0) ⊎ ((0 < end) × (get_or bytes (end - 1) 0 ≡ line_end)))
         (none : (i at : ℕ) → at < place → ¬ OccursIn bytes i at) (count : lines ≡ count_by is_end (take end bytes))
       where
@@ -189,52 +176,50 @@ module _ (line_end : ℕ) where
         size = length-take-le end bytes (omega (arith, before, inside))
 
         -- the lines up to an end of a line before an offset, if no match begins before that offset
-        made : (all : List (List ℕ)) × All (HasNoEnd line_end) all × (take end bytes ≡ flat_map (with_end line_end) all)
-        made = made_of_lines (take end bytes) (elim feed [
-          | inl zero ↦ inl (omega (arith, size, zero))
-          | inr last ↦ inr (
-            omega (arith, size, last.0),
-            ap (λ n. get_or (take end bytes) (n - 1) 0) size
-                ∙ get_or-take end bytes (end - 1) 0 (omega (arith, last.0)) ∙ last.1,
-          )
-        ])
+        abbrev all : List (List ℕ)
+        all = lines_of line_end (take end bytes)
 
-        are : ArePassed line_end search made.0
+        makes : Makes line_end (take end bytes) all
+        makes = made line_end (take end bytes) (ends_front line_end bytes end (omega (arith, before, inside)) feed)
+
+        are : ArePassed line_end search options all
         are =
-            let same : flat_map (with_end line_end) made.0 ++ drop end bytes ≡ bytes =
-            ap (λ l. l ++ drop end bytes) (sym made.2) ∙ take-append-drop end bytes in
+            let same : flat_map (with_end line_end) all ++ drop end bytes ≡ bytes =
+            ap (λ l. l ++ drop end bytes) (sym makes.are) ∙ take-append-drop end bytes in
             record {
-              whole = made.1;
-              none = none_in_lines [] made.0 (drop end bytes) place
-                  (λ i at below. subst (λ l. ¬ OccursIn l i at) (sym same) (none i at below))
-                  (omega (arith, size, before, ap (λ (l : List ℕ). length l) made.2));
+              whole = makes.whole;
+              none = λ k d below. no_match search options (get_or all k d)
+                  (none_in_lines [] all (drop end bytes) place
+                  (λ i at under. subst (λ l. ¬ OccursIn l i at) (sym same) (none i at under))
+                  (omega (arith, size, before, ap (λ (l : List ℕ). length l) makes.are)) k d below);
             }
 
         taken : (line : List ℕ) (next : Option ℕ)
-            → IfSome next (λ len. (len ≡ length line) × HasNoEnd line_end line × HasWord search line) → (text : List ℕ)
+            → IfSome next (λ len. (len ≡ length line) × HasNoEnd line_end line
+            × (options.whole ≡ false → HasWord search line)) → (text : List ℕ)
             → text ≡ take end bytes ++ next_of line_end next line
-            → Takes line_end search (record { lines = lines; bytes = end; next = next }) line text
+            → Takes line_end search options (record { lines = lines; bytes = end; next = next }) line text
         taken line next word text is = record {
-          lines = made.0;
+          lines = all;
           are = are;
-          count = count ∙ ap (count_by is_end) made.2 ∙ feeds_of_lines made.0 made.1;
-          bytes = sym size ∙ ap (λ (l : List ℕ). length l) made.2;
+          count = count ∙ ap (count_by is_end) makes.are ∙ feeds_of_lines all makes.whole;
+          bytes = sym size ∙ ap (λ (l : List ℕ). length l) makes.are;
           next = word;
-          text_is = is ∙ ap (λ l. l ++ next_of line_end next line) made.2;
+          text_is = is ∙ ap (λ l. l ++ next_of line_end next line) makes.are;
         }
 
         -- are taken alone
-        pub takes_lines : IsAhead line_end search bytes (record { lines = lines; bytes = end; next = None })
+        pub takes_lines : IsAhead line_end search options bytes (record { lines = lines; bytes = end; next = None })
         takes_lines = ([], taken [] None tt _ (sym (append-nil (take end bytes))), omega (arith, before, inside))
 
         -- and with the line of the match there, if it is whole
         pub takes_line : (found : MatchValue) (len : ℕ) → place ≡ found.start → OccursIn bytes found.pattern found.start
             → found.end ≡ found.start + length (pattern_at search.query.patterns found.pattern)
             → LiesInLine line_end bytes end found len
-            → IsAhead line_end search bytes (record { lines = lines; bytes = end; next = Some len })
+            → IsAhead line_end search options bytes (record { lines = lines; bytes = end; next = Some len })
         takes_line found len is occurs whole lies = (
           line,
-          taken line (Some len) (sym long, no_feed, (found.pattern, found.start - end, word)) _ text_is,
+          taken line (Some len) (sym long, no_feed, λ part. (found.pattern, found.start - end, word)) _ text_is,
           omega (arith, lies.fed),
         )
           where
@@ -312,13 +297,14 @@ none_counted {search} {options} takes none =
     by (line ∷ more) is = absurd (omega (arith, is, length-feeds options.line_end line more))
 
 -- the front of a list looks as the list does
-pub ahead_of_front : (line_end : ℕ) (search : SearchValue) (n : ℕ) (bytes : List ℕ) (passed : Passed)
-    → IsAhead line_end search (take n bytes) passed → IsAhead line_end search bytes passed
-ahead_of_front line_end search n bytes passed ahead =
+pub ahead_of_front : (line_end : ℕ) (search : SearchValue) (options : Options) (n : ℕ) (bytes : List ℕ)
+    (passed : Passed)
+    → IsAhead line_end search options (take n bytes) passed → IsAhead line_end search options bytes passed
+ahead_of_front line_end search options n bytes passed ahead =
     let front = length-take n bytes in
     let within : len_of passed ≤ n = omega (arith, ahead.2, front) in (
       ahead.0,
-      subst (Takes line_end search passed ahead.0) (take-take (len_of passed) n bytes within) ahead.1,
+      subst (Takes line_end search options passed ahead.0) (take-take (len_of passed) n bytes within) ahead.1,
       omega (arith, ahead.2, front),
     )
 
@@ -341,36 +327,71 @@ nothing_taken search options name lines offset written small = record {
   printed = prints_none search options name (is_silent options) (lines + 1) offset;
 }
 
-len_more : (bytes : ℕ) (next : Option ℕ) → bytes ≤ len_with bytes next
+-- no line was passed over
+pub passes_nothing : (search : SearchValue) (options : Options) (offset : ℕ) (context : Context) → offset < 2 ^ 64
+    → IsWell options context
+    → PassesAhead search options offset context context (record { lines = 0; bytes = 0; next = None }) []
+passes_nothing search options offset context small well = record {
+  are = record { whole = All-nil (HasNoEnd options.line_end); none = All-nil (HasNoMatch search options) };
+  bytes = refl;
+  small = omega (arith, small);
+  unselected = λ some. absurd (omega (arith, some));
+  over = passes_none options context well;
+}
+
+pub len_more : (bytes : ℕ) (next : Option ℕ) → bytes ≤ len_with bytes next
 len_more bytes None = omega arith
 len_more bytes (Some len) = omega arith
+
+-- the lines without a word are the first bytes
+pub front_of : {line_end : ℕ} {search : SearchValue} {options : Options} {line : List ℕ} {passed : Passed}
+    (bytes : List ℕ)
+    → (takes : Takes line_end search options passed line (take (len_of passed) bytes))
+    → take passed.bytes bytes ≡ flat_map (with_end line_end) takes.lines
+front_of {line_end} {search} {options} {line} {passed} bytes takes =
+    let front = flat_map (with_end line_end) takes.lines in
+    let all : take passed.bytes (take (len_of passed) bytes) ≡ front =
+    ap (λ n. take n (take (len_of passed) bytes)) takes.bytes ∙ ap (take (length front)) takes.text_is
+    ∙ take-append_seam front (next_of line_end passed.next line) in
+    sym (take-take passed.bytes (len_of passed) bytes (len_more passed.bytes passed.next)) ∙ all
 
 module _ (search : SearchValue) (options : Options) (name : List ℕ) (lines offset : ℕ) (bytes : List ℕ)
     (passed : Passed) (plain : PassesOthers options)
   where
-    counted_front : {line text : List ℕ} → (takes : Takes options.line_end search passed line text) → (others : ℕ)
+    counted_front : {line text : List ℕ} → (takes : Takes options.line_end search options passed line text)
+        → (others : ℕ)
         → others ≡ cond options.others passed.lines 0 → others ≡ count_by (counts search options) takes.lines
     counted_front takes others is =
         is ∙ ap (λ n. cond options.others n 0) takes.count
         ∙ sym (others_counted search options takes.lines takes.are.none)
 
-    printed_front_lines : {line text : List ℕ} → (takes : Takes options.line_end search passed line text)
-        → (front : List ℕ) → front ≡ flat_map (with_end options.line_end) takes.lines
-        → PrintsUnlessSilent (is_silent options) search options name (lines + 1) offset takes.lines
-        (cond (prints_others options) front [])
-    printed_front_lines takes front is =
-        subst (λ bytes. PrintsUnlessSilent (is_silent options) search options name (lines + 1) offset takes.lines
-        (cond (prints_others options) bytes [])) (sym is)
-        (others_printed search options name plain takes.lines takes.are.none (lines + 1) offset)
+    -- the lines without a word
+    abbrev front : List (List ℕ)
+    front = lines_of options.line_end (take passed.bytes bytes)
 
-    stops_front : {line text : List ℕ} → (takes : Takes options.line_end search passed line text) → (n before : ℕ)
+    -- what is printed of them
+    abbrev shown : List ℕ
+    shown = cond (prints_others options) (printed_each options name (lines + 1) offset front) []
+
+    printed_front_lines : {line : List ℕ}
+        → (takes : Takes options.line_end search options passed line (take (len_of passed) bytes))
+        → PrintsUnlessSilent (is_silent options) search options name (lines + 1) offset takes.lines shown
+    printed_front_lines takes =
+        let are : front ≡ takes.lines =
+        makes_lines options.line_end (record { whole = takes.are.whole; are = front_of bytes takes }) in
+        subst (λ these. PrintsUnlessSilent (is_silent options) search options name (lines + 1) offset takes.lines
+        (cond (prints_others options) (printed_each options name (lines + 1) offset these) [])) (sym are)
+        (others_printed search options name takes.lines takes.are.none (lines + 1) offset)
+
+    stops_front : {line text : List ℕ} → (takes : Takes options.line_end search options passed line text)
+        → (n before : ℕ)
         → is_enough (limit_of options) before ≡ false
         → is_enough (limit_of options) (before + count_by (counts search options) (take n takes.lines)) ≡ false
     stops_front takes n before not_yet =
         elim (cases_Bool options.others) [
           | inl others ↦
               ap (λ limit. is_enough limit (before + count_by (counts search options) (take n takes.lines)))
-              (plain others).0
+              (plain others)
           | inr kept ↦
               let none = others_counted search options takes.lines takes.are.none
               ∙ cond-false options.others (length takes.lines) 0 kept in
@@ -379,18 +400,8 @@ module _ (search : SearchValue) (options : Options) (name : List ℕ) (lines off
               not_yet
         ]
 
-    -- the lines without a word are the first bytes
-    front_of : {line : List ℕ} → (takes : Takes options.line_end search passed line (take (len_of passed) bytes))
-        → take passed.bytes bytes ≡ flat_map (with_end options.line_end) takes.lines
-    front_of {line} takes =
-        let front = flat_map (with_end options.line_end) takes.lines in
-        let all : take passed.bytes (take (len_of passed) bytes) ≡ front =
-        ap (λ n. take n (take (len_of passed) bytes)) takes.bytes ∙ ap (take (length front)) takes.text_is
-        ∙ take-append_seam front (next_of options.line_end passed.next line) in
-        sym (take-take passed.bytes (len_of passed) bytes (len_more passed.bytes passed.next)) ∙ all
-
     -- there are no more lines than bytes, and the line behind them is there
-    pub with_line : (len : ℕ) → passed.next ≡ Some len → IsAhead options.line_end search bytes passed
+    pub with_line : (len : ℕ) → passed.next ≡ Some len → IsAhead options.line_end search options bytes passed
         → (passed.lines ≤ passed.bytes) × (passed.bytes + len + 1 ≤ length bytes)
     with_line len is ahead = (
       omega (arith, ahead.1.count, ahead.1.bytes, length-feeds_most options.line_end ahead.1.lines),
@@ -398,24 +409,26 @@ module _ (search : SearchValue) (options : Options) (name : List ℕ) (lines off
     )
 
     -- and a word is in the line behind them
-    pub word_behind : (len : ℕ) → passed.next ≡ Some len → (ahead : IsAhead options.line_end search bytes passed)
-        → HasWord search (slice_range bytes passed.bytes (passed.bytes + len))
+    pub word_behind : (len : ℕ) → passed.next ≡ Some len
+        → (ahead : IsAhead options.line_end search options bytes passed)
+        → options.whole ≡ false → HasWord search (slice_range bytes passed.bytes (passed.bytes + len))
     word_behind len is ahead =
-        let takes = takes_copy options.line_end search bytes passed _ len is refl ahead in
+        let takes = takes_copy options.line_end search options bytes passed _ len is refl ahead in
         (subst (λ next. IfSome next (λ n. (n ≡ length (slice_range bytes passed.bytes (passed.bytes + len)))
         × HasNoEnd options.line_end (slice_range bytes passed.bytes (passed.bytes + len))
-        × HasWord search (slice_range bytes passed.bytes (passed.bytes + len)))) is takes.next).2
+        × (options.whole ≡ false → HasWord search (slice_range bytes passed.bytes (passed.bytes + len))))) is
+        takes.next).2
 
     -- lines without a word are handled
     pub lines_taken : (others : ℕ) → others ≡ cond options.others passed.lines 0 → (written now : Option (List ℕ))
-        → Appends written now (cond (prints_others options) (take passed.bytes bytes) [])
-        → offset + length bytes < 2 ^ 64 → passed.next ≡ None → IsAhead options.line_end search bytes passed
+        → Appends written now shown
+        → offset + length bytes < 2 ^ 64 → passed.next ≡ None → IsAhead options.line_end search options bytes passed
         → TakesLines search options name lines offset
         (record { lines = passed.lines; bytes = passed.bytes; count = others; found = false }) (take passed.bytes bytes)
         written now
     lines_taken others others_are written now writes small is ahead =
         let takes = ahead.1 in
-        let text_is = front_of takes in
+        let text_is = front_of bytes takes in
         let counted = counted_front takes others others_are in
         let inside = subst (λ next. len_with passed.bytes next ≤ length bytes) is ahead.2 in
         record {
@@ -427,16 +440,16 @@ module _ (search : SearchValue) (options : Options) (name : List ℕ) (lines off
           small = omega (arith, small, inside);
           counted = counted;
           stops = λ n before not_yet below. stops_front takes n before not_yet;
-          out = cond (prints_others options) (take passed.bytes bytes) [];
+          out = shown;
           writes = writes;
-          printed = printed_front_lines takes (take passed.bytes bytes) text_is;
+          printed = printed_front_lines takes;
         }
 
     -- and the line behind them, of which this was printed
     pub line_taken : (others : ℕ) → others ≡ cond options.others passed.lines 0 → (written between : Option (List ℕ))
-        → Appends written between (cond (prints_others options) (take passed.bytes bytes) [])
+        → Appends written between shown
         → (len : ℕ) (line : List ℕ) → passed.next ≡ Some len
-        → Takes options.line_end search passed line (take (len_of passed) bytes)
+        → Takes options.line_end search options passed line (take (len_of passed) bytes)
         → (number start count : ℕ) → number ≡ lines + passed.lines + 1 → start ≡ offset + passed.bytes
         → offset + (passed.bytes + len + 1) < 2 ^ 64 → count ≡ count_by (counts search options) (line ∷ [])
         → (now : Option (List ℕ)) (out : List ℕ) → Appends between now out
@@ -446,33 +459,33 @@ module _ (search : SearchValue) (options : Options) (name : List ℕ) (lines off
         (take (passed.bytes + len + 1) bytes) written now
     line_taken others others_are written between before len line is takes number start count number_is start_is small
         counted now out writes printed =
-        let front = takes.lines in
+        let these = takes.lines in
         let word = subst (λ next. IfSome next
-        (λ n. (n ≡ length line) × HasNoEnd options.line_end line × HasWord search line)) is takes.next in
-        let text_is : take (passed.bytes + len + 1) bytes ≡ flat_map (with_end options.line_end) (front ++ line ∷ []) =
+        (λ n. (n ≡ length line) × HasNoEnd options.line_end line
+        × (options.whole ≡ false → HasWord search line))) is takes.next in
+        let text_is : take (passed.bytes + len + 1) bytes ≡ flat_map (with_end options.line_end) (these ++ line ∷ []) =
         ap (λ next. take (len_with passed.bytes next) bytes) (sym is) ∙ takes.text_is
-        ∙ ap (λ next. flat_map (with_end options.line_end) front ++ next_of options.line_end next line) is
-        ∙ flat_map_more (with_end options.line_end) [] front line in
-        let size = length-feeds_push options.line_end front line in
-        let shown = cond (prints_others options) (take passed.bytes bytes) [] in
+        ∙ ap (λ next. flat_map (with_end options.line_end) these ++ next_of options.line_end next line) is
+        ∙ flat_map_more (with_end options.line_end) [] these line in
+        let size = length-feeds_push options.line_end these line in
         record {
-          taken = front ++ line ∷ [];
-          whole = All-push (HasNoEnd options.line_end) front line takes.are.whole word.1;
+          taken = these ++ line ∷ [];
+          whole = All-push (HasNoEnd options.line_end) these line takes.are.whole word.1;
           text_is = text_is;
-          lines_are = omega (arith, takes.count, length_push front line);
+          lines_are = omega (arith, takes.count, length_push these line);
           bytes_are = omega (arith, takes.bytes, word.0, size, ap (λ (l : List ℕ). length l) text_is);
           small = small;
-          counted = count-append (counts search options) front (line ∷ []) others count
+          counted = count-append (counts search options) these (line ∷ []) others count
               (counted_front takes others others_are) counted;
           stops = λ n before not_yet below.
-              let few : n ≤ length front = omega (arith, below, length_push front line) in
+              let few : n ≤ length these = omega (arith, below, length_push these line) in
               ap (λ l. is_enough (limit_of options) (before + count_by (counts search options) l))
-              (take-append-le n front (line ∷ []) few) ∙ stops_front takes n before not_yet;
+              (take-append-le n these (line ∷ []) few) ∙ stops_front takes n before not_yet;
           out = shown ++ out;
           writes = Appends-trans written between now shown out before writes;
-          printed = prints_more search options name (is_silent options) (lines + 1) offset number start front
+          printed = prints_more search options name (is_silent options) (lines + 1) offset number start these
               (line ∷ []) shown out (omega (arith, number_is, takes.count)) (omega (arith, start_is, takes.bytes))
-              (printed_front_lines takes (take passed.bytes bytes) (front_of takes)) printed;
+              (printed_front_lines takes) printed;
         }
 
 -- a scan has read these lines and printed this of them: so many count, so many they are, and so many bytes they have

@@ -11,7 +11,7 @@ use Rattle.literal_base.specs.MatchValue.{MatchValue}
 use Rattle.literal_search.specs.SearchValue.{SearchValue}
 use Rattle.litscan.specs.Asked.{AreMatches, one_asked}
 use Rattle.litscan.specs.Lines.{with_end}
-use Rattle.litscan.specs.Options.{is_colored, is_silent}
+use Rattle.litscan.specs.Options.{is_marked, is_silent}
 use Rattle.litscan.specs.Printed.{PrintsFound, PrintsLine, PrintsLines, PrintsUnlessSilent, PrintsWhole, counts}
 use Rattle.litscan.specs.Printed.{printed_matches}
 use Rattle.litscan.specs.declared.options.Options.{Options}
@@ -191,7 +191,7 @@ module _ (search : SearchValue) (options : Options) (name : List ℕ) where
   pub prints_whole : (number offset : ℕ) (line out : List ℕ)
       → (is_silent options || (options.only && options.others)) ≡ false → options.only ≡ false
       → counts search options line ≡ true
-      → PrintsWhole (is_colored options) search options name number offset line out
+      → PrintsWhole (is_marked options) search options name number offset line out
       → PrintsUnlessSilent (is_silent options) search options name number offset (line ∷ []) out
   prints_whole number offset line out loud all counted whole =
       one_line number offset line out (not_asked (is_silent options) options.only options.others loud).0

@@ -1,12 +1,15 @@
 -- The state of a scan between two lines, from which groups of lines are printed.
-use Rattle.std.specs.Prelude.{◌≡◌, ◌≤◌, ◌<◌, ℕ, ◌+◌, ◌-◌, ◌++◌, ◌||◌, Bool, true, false, List, [], ◌∷◌, length, map}
+use Rattle.std.specs.Prelude.{◌≡◌, ◌≤◌, ◌<◌, ℕ, ◌+◌, ◌-◌, ◌^◌, ◌++◌, ◌||◌, Bool, true, false, List, [], ◌∷◌, length}
+use Rattle.std.specs.Prelude.{map}
 use Rattle.std.specs.Prelude.{if◌then◌else◌, nat_lt, take}
 use Rattle.std.specs.List.{flat_map, list_any}
 use Rattle.literal_search.specs.SearchValue.{SearchValue}
 use Rattle.litscan.specs.Context.{Mark, PrintsGroups, lines_after, lines_before, mark_by}
-use Rattle.litscan.specs.Lines.{with_feed}
+use Rattle.litscan.specs.Inside.Passed.{ArePassed}
+use Rattle.litscan.specs.Lines.{with_end, with_feed}
 use Rattle.litscan.specs.declared.context.Context.{Context}
 use Rattle.litscan.specs.declared.options.Options.{Options}
+use Rattle.litscan.specs.declared.passed.Passed.{Passed}
 
 -- the held lines
 abbrev pub held_of : Context → List (List ℕ)
@@ -58,3 +61,24 @@ pub record Follows (options : Options) (old new : Context) (line : List ℕ) : T
   pub well : IsWell options new
   pub number_is : next_number new ≡ next_number old + 1
   pub offset_is : next_offset new ≡ next_offset old + length line + 1
+
+-- lines that are not selected were passed over: the output from the old state on, with these lines, is that from the
+-- new state on
+pub record PassesOver (options : Options) (old new : Context) (lines : List (List ℕ)) : Type 0 where
+  pub goes_on : (search : SearchValue) (separator name : List ℕ) (more : List (List ℕ)) (counting : List Bool)
+      (rest : List ℕ) → PrintsFrom search options separator name new more counting rest
+      → PrintsFrom search options separator name old (lines ++ more) (none_count lines ++ counting) rest
+  pub well : IsWell options new
+  pub number_is : next_number new ≡ next_number old + length lines
+  pub offset_is : next_offset new ≡ next_offset old + length (flat_map with_feed lines)
+  pub due_is : new.due ≡ old.due
+
+-- lines without a word were passed over, which begin at this offset of the text and have so many bytes. If there are
+-- any, such lines are not selected, and none is due
+pub record PassesAhead (search : SearchValue) (options : Options) (offset : ℕ) (old new : Context) (passed : Passed)
+    (lines : List (List ℕ)) : Type 0 where
+  pub are : ArePassed options.line_end search options lines
+  pub bytes : passed.bytes ≡ length (flat_map (with_end options.line_end) lines)
+  pub small : offset + passed.bytes < 2 ^ 64
+  pub unselected : 0 < length lines → (options.others ≡ false) × (old.due ≡ 0)
+  pub over : PassesOver options old new lines

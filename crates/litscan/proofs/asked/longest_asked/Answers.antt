@@ -28,5 +28,6 @@ asked_at-requires-clause-alone c =
     ap (λ (s : Span). is_asked c.args.options c.args.line.now s.start s.end) (sym c.span.ensures.span)
     ∙ sym c.is_asked.ensures ∙ c.if-is_asked.false in (
       c.requires.part,
-      asks_alone c.args.search.now c.args.options c.args.line.now _ _ c.requires.part other,
+      asks_alone c.args.search.now c.args.options c.args.line.now c.args.found.start c.args.found.end
+          c.requires.part other,
     )

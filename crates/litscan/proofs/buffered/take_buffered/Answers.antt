@@ -1,8 +1,11 @@
 use Rattle.std.proofs.Common.{◌+◌, arith, refl, slice_range, subst, sym, take}
 use Rattle.std.proofs.KnownBytes.{Appends-kept}
-use Rattle.litscan.specs.Inside.Passed.{TakesLines}
+use Rattle.std.proofs.lemmas.Bool.{not-true}
+use Rattle.litscan.specs.Inside.Passed.{EndsLine, TakesLines}
 use Rattle.litscan.proofs.lemmas.Others.{few_others}
-use Rattle.litscan.proofs.lemmas.Passing.{line_taken, lines_taken, nothing_taken, takes_copy, with_line, word_behind}
+use Rattle.litscan.proofs.lemmas.Passing.{front_of, line_taken, lines_taken, nothing_taken, takes_copy, with_line}
+use Rattle.litscan.proofs.lemmas.Passing.{word_behind}
+use Rattle.litscan.proofs.lemmas.Whole.{ends_of}
 use Rattle.litscan.proofs.buffered.take_buffered.Goals as goal
 
 pub returns-in_default-clause-takes : goal.returns-in_default-clause-takes
@@ -31,6 +34,7 @@ pub take_line-requires-clause-known : goal.take_line-requires-clause-known
 take_line-requires-clause-known g c is =
     word_behind c.args.search.now c.args.options c.args.name.now c.args.lines c.args.offset c.args.bytes.now
     c.look_ahead-passed.result c.requires.plain c.in-Some-next.len c.in-Some-next.is c.look_ahead-passed.ensures
+    (not-true c.args.options.whole is)
 
 pub overflow_add-number-2 : goal.overflow_add-number-2
 overflow_add-number-2 g c =
@@ -57,7 +61,8 @@ returns-clause-takes g c =
     line_taken search c.args.options c.args.name.now c.args.lines c.args.offset c.args.bytes.now passed
     c.requires.plain c.in_ok-others.others c.in_ok-others.ensures.count _ _ c.in_ok-others.ensures.written len line
     c.in-Some-next.is
-    (takes_copy line_end search c.args.bytes.now passed line len c.in-Some-next.is refl c.look_ahead-passed.ensures)
+    (takes_copy line_end search c.args.options c.args.bytes.now passed line len c.in-Some-next.is refl
+    c.look_ahead-passed.ensures)
     _ _ c.in_ok-count.count refl refl (omega (arith, few, c.in-Some.ensures)) c.in_ok-count.ensures.counted _ printed.0
     (Appends-kept _ _ _ _ printed.1 c.in_ok-flush_line.ensures.kept) printed.2
 
@@ -73,3 +78,9 @@ overflow_add-result-4 g c =
           c.in_ok-others.ensures.count,
       c.in_ok-count.ensures.few,
     )
+
+pub take_others-requires-clause-whole : goal.take_others-requires-clause-whole
+take_others-requires-clause-whole g c =
+    let takes = c.look_ahead-passed.ensures.1 in
+    subst (EndsLine c.args.options.line_end) (sym (front_of c.args.bytes.now takes))
+    (ends_of c.args.options.line_end takes.lines)

@@ -1,44 +1,28 @@
-use Rattle.std.proofs.Common.{◌≡◌, ◌++◌, ◌∷◌, ◌∙◌, [], List, ℕ, append_assoc, refl, subst, sym, Bool}
-use Rattle.std.proofs.KnownBytes.{Appends-trans}
+use Rattle.std.proofs.Common.{◌∙◌, Bool, refl, subst, sym}
 use Rattle.std.proofs.lemmas.Result.{on_ok_weaker}
-use Rattle.std.specs.Io.KnownBytes.{Appends}
-use Rattle.litscan.specs.Printed.{PrintsWhole, marked_from, printed_head, printed_part}
+use Rattle.litscan.specs.Printed.{PrintsWhole, printed_part}
 use Rattle.litscan.proofs.printing.print_line.Goals as goal
 
--- the line behind what stands in front of it, and the end
-in_line : (line_end : ℕ) (head line : List ℕ) → (head ++ line) ++ line_end ∷ [] ≡ head ++ (line ++ line_end ∷ [])
-in_line line_end head line = append_assoc head line (line_end ∷ [])
-
-pub returns-then-not-is_colored-clause-printed : goal.returns-then-not-is_colored-clause-printed
-returns-then-not-is_colored-clause-printed g c =
-    let name = c.args.name.now in
-    let line = c.args.line.now in
-    let whole = λ (b : Bool). PrintsWhole b c.args.search.now c.args.options name c.args.number c.args.offset line
-    (printed_part c.args.options name c.args.number c.args.offset line line) in
-    on_ok_weaker c.print_part.result
-    (λ written. (
-      printed_part c.args.options name c.args.number c.args.offset line line,
-      written,
-      subst whole (sym (sym c.is_colored.ensures ∙ c.if-not-is_colored.true)) refl,
+pub returns-then-is_marked-clause-printed : goal.returns-then-is_marked-clause-printed
+returns-then-is_marked-clause-printed g c =
+    on_ok_weaker c.print_with_matches.result
+    (λ printed. (
+      printed.0,
+      printed.1,
+      subst (λ (b : Bool). PrintsWhole b c.args.search.now c.args.options c.args.name.now c.args.number c.args.offset
+          c.args.line.now printed.0) (sym (sym c.is_marked.ensures ∙ c.if-is_marked.true)) printed.2,
     ))
-    c.print_part.ensures.printed
+    c.print_with_matches.ensures.printed
 
 pub returns-clause-printed : goal.returns-clause-printed
 returns-clause-printed g c =
-    let options = c.args.options in
-    let name = c.args.name.now in
     let line = c.args.line.now in
-    let marked = c.in_ok-print_marked.ensures.printed in
-    let head = printed_head options name c.args.number c.args.offset line in
-    let shown = marked_from options line 0 marked.0 in
-    let whole = λ (b : Bool). PrintsWhole b c.args.search.now options name c.args.number c.args.offset line
-    (printed_part options name c.args.number c.args.offset line shown) in
-    on_ok_weaker c.write_all.result
+    let part = printed_part c.args.options c.args.name.now c.args.number c.args.offset line line in
+    on_ok_weaker c.print_part.result
     (λ written. (
-      printed_part options name c.args.number c.args.offset line shown,
-      subst (Appends _ _) (in_line options.line_end head shown)
-          (Appends-trans _ _ _ (head ++ shown) (options.line_end ∷ [])
-          (Appends-trans _ _ _ head shown c.in_ok-print_head.ensures.printed marked.2) written),
-      subst whole (sym (sym c.is_colored.ensures ∙ c.if-not-is_colored.false)) (marked.0, marked.1, refl),
+      part,
+      written,
+      subst (λ (b : Bool). PrintsWhole b c.args.search.now c.args.options c.args.name.now c.args.number c.args.offset
+          line part) (sym (sym c.is_marked.ensures ∙ c.if-is_marked.false)) refl,
     ))
-    c.write_all.ensures.written
+    c.print_part.ensures.printed

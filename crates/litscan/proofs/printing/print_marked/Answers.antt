@@ -3,7 +3,6 @@ use Rattle.std.proofs.Common.{slice_range, subst, sym}
 use Rattle.std.proofs.KnownBytes.{Appends-nil, Appends-trans}
 use Rattle.std.proofs.lemmas.Result.{on_ok_weaker}
 use Rattle.std.specs.Io.KnownBytes.{Appends}
-use Rattle.literal_base.specs.declared.search.Span.{Span}
 use Rattle.litscan.specs.Asked.{AreMatches}
 use Rattle.litscan.specs.Inside.Asked.{IsAlong}
 use Rattle.litscan.specs.Printed.{marked_from, printed_match}
@@ -37,12 +36,8 @@ loop-found-preserved g c =
     let so_far = c.loop-found.invariant in
     let first = c.in-Some.ensures.first in
     let before = slice_range line from found.start in
-    let shown = printed_match options (slice_range line found.start found.end) in
+    let shown = printed_match options line found in
     let here = Appends (g.W.Write.contents c.loop-found.writer.inner) (g.W.Write.contents c.write_all.new.self.inner) in
-    let there = Appends (g.W.Write.contents c.write_all.new.self.inner)
-    (g.W.Write.contents c.print_colored.new.writer.inner) in
-    let bytes : c.of.result.now ≡ slice_range line found.start found.end =
-    c.of.ensures ∙ ap (λ (s : Span). slice_range line s.start s.end) c.span.ensures.span in
     let front : Appends (g.W.Write.contents c.args.writer.now.inner) (g.W.Write.contents c.write_all.new.self.inner)
     (so_far.out ++ before) =
     Appends-trans _ _ _ so_far.out before so_far.written
@@ -60,8 +55,7 @@ loop-found-preserved g c =
             subst (λ at. AreMatches search options line at more) c.end-from.ensures.end are,
           ));
       written =
-          Appends-trans _ _ _ (so_far.out ++ before) shown front
-          (subst (λ these. there (printed_match options these)) bytes c.in_ok-print_colored.ensures.printed);
+          Appends-trans _ _ _ (so_far.out ++ before) shown front c.in_ok-print_shown.ensures.printed;
       marked = λ more.
           let rest = marked_from options line found.end more in
           ap (λ at. ((so_far.out ++ before) ++ shown) ++ marked_from options line at more) c.end-from.ensures.end

@@ -1,9 +1,9 @@
-use Rattle.std.proofs.Common.{◌≡◌, ◌+◌, ◌++◌, ◌∷◌, ◌∙◌, [], append-nil, append_assoc, ap, arith, refl, subst, sym}
-use Rattle.std.proofs.Common.{List, ℕ, slice_range}
+use Rattle.std.proofs.Common.{◌≡◌, ◌+◌, ◌++◌, ◌∷◌, [], append-nil, append_assoc, ap, arith, refl, subst, sym}
+use Rattle.std.proofs.Common.{ℕ, slice_range}
 use Rattle.std.proofs.KnownBytes.{Appends-nil, Appends-trans}
 use Rattle.std.proofs.lemmas.List.{flat_map_more, length_push}
 use Rattle.std.specs.Io.KnownBytes.{Appends}
-use Rattle.literal_base.specs.declared.search.Span.{Span}
+use Rattle.literal_base.specs.MatchValue.{MatchValue}
 use Rattle.litscan.specs.Asked.{AreMatches}
 use Rattle.litscan.specs.Inside.Asked.{IsAlong}
 use Rattle.litscan.specs.Printed.{printed_match, printed_matches, printed_part}
@@ -33,9 +33,8 @@ loop-found-preserved g c =
     let first = c.in-Some.ensures.first in
     let place : c.args.offset + c.start.result ≡ c.args.offset + found.start = ap (λ n. c.args.offset + n)
     c.start.ensures.start in
-    let bytes : c.of.result.now ≡ slice_range line found.start found.end =
-    c.of.ensures ∙ ap (λ (s : Span). slice_range line s.start s.end) c.span.ensures.span in
-    let part = λ (at : ℕ) (these : List ℕ). printed_part options name number at these (printed_match options these) in
+    let part = λ (at : ℕ) (it : MatchValue). printed_part options name number at (slice_range line it.start it.end)
+    (printed_match options line it) in
     let longer = length_push so_far.all found in
     let here = Appends (g.W.Write.contents c.loop-found.writer.inner)
     (g.W.Write.contents c.print_match.new.writer.inner) in
@@ -52,12 +51,9 @@ loop-found-preserved g c =
           ));
       written =
           subst (Appends _ _)
-          (flat_map_more
-          (λ it. part (c.args.offset + it.start) (slice_range line it.start it.end)) [] so_far.all found)
+          (flat_map_more (λ it. part (c.args.offset + it.start) it) [] so_far.all found)
           (Appends-trans _ _ _ (printed_matches options name number c.args.offset line so_far.all) _ so_far.written
-          (subst (λ at. here (part at (slice_range line found.start found.end))) place
-          (subst (λ these. here (part (c.args.offset + c.start.result) these)) bytes
-          c.in_ok-print_match.ensures.printed)));
+          (subst (λ at. here (part at found)) place c.in_ok-print_match.ensures.printed));
       counted = omega (arith, longer);
     }
 

@@ -1,8 +1,7 @@
 use Rattle.std.proofs.Common.{◌∙◌, ◌++◌, ◌∷◌, [], ℕ, List, ap, map, subst, sym, take}
 use Rattle.std.proofs.lemmas.List.{flat_map_more, map_more}
-use Rattle.litscan.specs.Lines.{lines_of}
 use Rattle.litscan.specs.Request.{SourceValue, value_of_source}
-use Rattle.litscan.specs.Words.{AreTextsOf, IsTextOf}
+use Rattle.litscan.specs.Words.{AreTextsOf, IsTextOf, words_of_text}
 use Rattle.litscan.proofs.words.words_of.Goals as goal
 
 -- the text of one source more
@@ -28,6 +27,6 @@ loop-source-preserved c =
           (sym (next ∙ ap (λ source. front ++ value_of_source source ∷ []) (sym c.source-item.is)))
           (texts_more front so_far.texts (value_of_source c.source-item.result) added.0 so_far.are added.1);
       words =
-          added.2 ∙ ap (λ words. words ++ (lines_of 10) added.0) so_far.words
-          ∙ flat_map_more (lines_of 10) [] so_far.texts added.0;
+          added.2 ∙ ap (λ words. words ++ words_of_text c.args.options added.0) so_far.words
+          ∙ flat_map_more (words_of_text c.args.options) [] so_far.texts added.0;
     }
