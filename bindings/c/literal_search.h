@@ -36,7 +36,8 @@
  *   2. To search more than once, let literal_prepare write the search into an array, and pass this array to the
  *      functions whose names end in _in. Those that have overlapping in their names need an array from
  *      literal_prepare_overlapping. They build nothing, and allocate nothing.
- *   3. literal_new and literal_new_overlapping allocate the array; the functions for it are defined at the end.
+ *   3. literal_new and literal_new_overlapping allocate the array. These and the functions for it are defined at the
+ *      end, in C; the shared library exports them too.
  *
  * Arrays may be copied, or kept in a file for machines of the same byte order. If the format differs between two
  * versions of the library, an array of the other version is LITERAL_DAMAGED: its first number is the format. Then
@@ -82,10 +83,10 @@
  *   - malloc, realloc and free are from one allocator. malloc and realloc align a block to each power of two up to 16
  *     that divides its size.
  *
- * The library runs on Linux with glibc 2.34 or newer, on aarch64 and on x86-64-v2 processors (SSE4.2 and POPCNT). On an
- * older x86 processor glibc refuses to start a program, or to load the shared library, except a static program or one
- * linked by lld: there the first search ends with an illegal instruction (SIGILL). On x86-64-v3 processors (AVX2) the
- * library uses wider vectors.
+ * The library runs on Linux with glibc 2.34 or newer, on aarch64 and on x86-64-v2 processors (SSE4.2 and POPCNT), and
+ * on Windows, on these x86-64 processors, in programs of mingw-w64. On an older x86 processor glibc refuses to start a
+ * program, or to load the shared library, except a static program or one linked by lld: there the first search ends
+ * with an illegal instruction (SIGILL). On x86-64-v3 processors (AVX2) the library uses wider vectors.
  */
 #ifndef LITERAL_SEARCH_H
 #define LITERAL_SEARCH_H
@@ -118,7 +119,9 @@ extern "C" {
 #define LITERAL_LEFTMOST_FIRST 0
 #define LITERAL_LEFTMOST_LONGEST 1
 
-/* A match: the number of its pattern, the offset of its first byte, and the offset after its last byte. */
+/* A match: the number of its pattern, the offset of its first byte, and the offset after its last byte. In languages
+ * where `end` is a keyword, such as Lua and Ruby, declare the last field as `end_`: only the order and the types of
+ * fields matter. */
 typedef struct literal_match {
     size_t pattern;
     size_t start;
@@ -468,18 +471,22 @@ int32_t literal_walk_in(const uint32_t *prepared, size_t prepared_len, uint32_t 
 int32_t literal_patterns_at_in(const uint32_t *prepared, size_t prepared_len, uint32_t state, size_t from,
                                size_t *patterns, size_t patterns_len, size_t *total);
 
-/* What follows is defined here, in C, and uses only the functions above. */
+/* What follows is defined here, in C, and uses only the functions above. Each source file that includes the header gets
+ * its own copies of these functions. The shared library exports those with LITERAL_API too, so that callers in other
+ * languages need no C: ./install compiles them with LITERAL_EXPORT defined. A program in C that defines LITERAL_IMPORT
+ * gets no copies of them, and calls the shared library instead. */
+#if defined(LITERAL_EXPORT) && defined(_WIN32)
+#define LITERAL_API __declspec(dllexport)
+#elif defined(LITERAL_EXPORT)
+#define LITERAL_API __attribute__((visibility("default")))
+#elif defined(LITERAL_IMPORT)
+#define LITERAL_API extern
+#else
+#define LITERAL_API static inline
+#endif
 
 /* What a status says, in a few words. */
-static inline const char *literal_status_text(int32_t status) {
-    static const char *const texts[] = {
-        "done", "nothing was found", "a pattern is empty, or there are too many patterns", "out of memory",
-        "the arguments contradict each other", "the patterns need too large a table", "the array is too short",
-        "the array is damaged, or of another version",
-    };
-    bool is_known = status >= 0 && status < (int32_t)(sizeof texts / sizeof *texts);
-    return is_known ? texts[status] : "no status of this library";
-}
+LITERAL_API const char *literal_status_text(int32_t status);
 
 /* Whether a pattern ends with the text of a state. */
 static inline bool literal_is_match(uint32_t state) {
@@ -493,12 +500,46 @@ typedef struct literal_search {
     size_t prepared_len;
 } literal_search;
 
+/* Makes a search for patterns. Returns NULL if literal_prepare refuses them, or memory is refused; *status says why. It
+ * is LITERAL_OK if there is a search, and never LITERAL_TOO_SHORT. */
+LITERAL_API literal_search *literal_new(uint32_t kind, uint32_t ignore_case, const uint8_t *patterns,
+                                        size_t patterns_len, const size_t *ends, size_t ends_len, int32_t *status);
+
+/* The same for every occurrence: for literal_each_overlapping, and for the functions above that have overlapping in
+ * their names. */
+LITERAL_API literal_search *literal_new_overlapping(uint32_t ignore_case, const uint8_t *patterns, size_t patterns_len,
+                                                    const size_t *ends, size_t ends_len, int32_t *status);
+
+/* Like literal_new, for words that end in a zero byte. */
+LITERAL_API literal_search *literal_new_of_words(uint32_t kind, uint32_t ignore_case, const char *const *words,
+                                                 size_t words_len, int32_t *status);
+
 /* Frees a search. With NULL it does nothing. */
-static inline void literal_free(literal_search *search) {
-    if (search != NULL)
-        free(search->prepared);
-    free(search);
-}
+LITERAL_API void literal_free(literal_search *search);
+
+/* 1 if there is a match in the haystack from an offset on, else 0; found is then the leftmost one. There is none if the
+ * offset exceeds the length of the haystack. By a search of literal_new_overlapping it finds nothing. */
+LITERAL_API int literal_next(const literal_search *search, const void *haystack, size_t haystack_len, size_t from,
+                             literal_match *found);
+
+/* The number of matches in the haystack: as many as literal_each passes on if its function always returns 0. By a
+ * search of literal_new_overlapping it finds nothing, and returns 0. */
+LITERAL_API size_t literal_count(const literal_search *search, const void *haystack, size_t haystack_len);
+
+/* Passes each match in the haystack to a function, with the context: first the leftmost match, and then the leftmost
+ * one after each match. If the function returns another number than 0, no more matches are passed, and the number is
+ * returned; else 0. For many matches this is faster than literal_next. By a search of literal_new_overlapping it finds
+ * nothing, and returns 0. */
+LITERAL_API int literal_each(const literal_search *search, const void *haystack, size_t haystack_len,
+                             int (*function)(void *context, literal_match found), void *context);
+
+/* The same for every occurrence, by a search of literal_new_overlapping: in the order of their ends and, at one end, of
+ * their pattern numbers. By another search nothing is passed. The occurrences are found in pages of 128. If a page goes
+ * on by less than the length of the longest pattern, the next page has twice the room, in allocated memory, so that few
+ * bytes are read again. If this memory is refused, the room stays as it is: the same occurrences are passed, but more
+ * slowly. The memory is freed at the end, so the function must return: without longjmp, and without an exception. */
+LITERAL_API int literal_each_overlapping(const literal_search *search, const void *haystack, size_t haystack_len,
+                                         int (*function)(void *context, literal_match found), void *context);
 
 /* For literal_new: at least as many entries as literal_prepare needs for the patterns. These are 1,000, one for each
  * pattern, and a row for each of their bytes and one row more. A row has an entry for each distinct byte, and two more.
@@ -513,8 +554,26 @@ static inline size_t literal_room(const uint8_t *patterns, size_t patterns_len, 
     return 1000 + ends_len + (patterns_len + 1) * width;
 }
 
+#ifndef LITERAL_IMPORT
+
+LITERAL_API const char *literal_status_text(int32_t status) {
+    static const char *const texts[] = {
+        "done", "nothing was found", "a pattern is empty, or there are too many patterns", "out of memory",
+        "the arguments contradict each other", "the patterns need too large a table", "the array is too short",
+        "the array is damaged, or of another version",
+    };
+    bool is_known = status >= 0 && status < (int32_t)(sizeof texts / sizeof *texts);
+    return is_known ? texts[status] : "no status of this library";
+}
+
+LITERAL_API void literal_free(literal_search *search) {
+    if (search != NULL)
+        free(search->prepared);
+    free(search);
+}
+
 /* For the functions below: makes a search for every occurrence, or for leftmost matches of a kind. */
-static inline literal_search *literal_new_for(bool is_overlapping, uint32_t kind, bool ignore_case,
+static inline literal_search *literal_new_for(bool is_overlapping, uint32_t kind, uint32_t ignore_case,
                                               const uint8_t *patterns, size_t patterns_len, const size_t *ends,
                                               size_t ends_len, int32_t *status) {
     literal_search *search = (literal_search *)calloc(1, sizeof *search);
@@ -550,23 +609,18 @@ static inline literal_search *literal_new_for(bool is_overlapping, uint32_t kind
     return search;
 }
 
-/* Makes a search for patterns. Returns NULL if literal_prepare refuses them, or memory is refused; *status says why. It
- * is LITERAL_OK if there is a search, and never LITERAL_TOO_SHORT. */
-static inline literal_search *literal_new(uint32_t kind, bool ignore_case, const uint8_t *patterns, size_t patterns_len,
-                                          const size_t *ends, size_t ends_len, int32_t *status) {
+LITERAL_API literal_search *literal_new(uint32_t kind, uint32_t ignore_case, const uint8_t *patterns,
+                                        size_t patterns_len, const size_t *ends, size_t ends_len, int32_t *status) {
     return literal_new_for(false, kind, ignore_case, patterns, patterns_len, ends, ends_len, status);
 }
 
-/* The same for every occurrence: for literal_each_overlapping, and for the functions above that have overlapping in
- * their names. */
-static inline literal_search *literal_new_overlapping(bool ignore_case, const uint8_t *patterns, size_t patterns_len,
-                                                      const size_t *ends, size_t ends_len, int32_t *status) {
+LITERAL_API literal_search *literal_new_overlapping(uint32_t ignore_case, const uint8_t *patterns, size_t patterns_len,
+                                                    const size_t *ends, size_t ends_len, int32_t *status) {
     return literal_new_for(true, LITERAL_LEFTMOST_FIRST, ignore_case, patterns, patterns_len, ends, ends_len, status);
 }
 
-/* Like literal_new, for words that end in a zero byte. */
-static inline literal_search *literal_new_of_words(uint32_t kind, bool ignore_case, const char *const *words,
-                                                   size_t words_len, int32_t *status) {
+LITERAL_API literal_search *literal_new_of_words(uint32_t kind, uint32_t ignore_case, const char *const *words,
+                                                 size_t words_len, int32_t *status) {
     size_t *ends = (size_t *)malloc((words_len + 1) * sizeof *ends);
     size_t len = ends == NULL ? 0 : literal_join(words, words_len, NULL, 0, ends);
     uint8_t *patterns = (uint8_t *)malloc(len + 1);
@@ -581,17 +635,13 @@ static inline literal_search *literal_new_of_words(uint32_t kind, bool ignore_ca
     return search;
 }
 
-/* Whether there is a match in the haystack from an offset on; found is then the leftmost one. There is none if the
- * offset exceeds the length of the haystack. By a search of literal_new_overlapping it finds nothing. */
-static inline bool literal_next(const literal_search *search, const void *haystack, size_t haystack_len, size_t from,
-                                literal_match *found) {
+LITERAL_API int literal_next(const literal_search *search, const void *haystack, size_t haystack_len, size_t from,
+                             literal_match *found) {
     return literal_find_in(search->prepared, search->prepared_len, (const uint8_t *)haystack, haystack_len, from,
                            haystack_len, found) == LITERAL_OK;
 }
 
-/* The number of matches in the haystack: as many as literal_each passes on if its function always returns 0. By a
- * search of literal_new_overlapping it finds nothing, and returns 0. */
-static inline size_t literal_count(const literal_search *search, const void *haystack, size_t haystack_len) {
+LITERAL_API size_t literal_count(const literal_search *search, const void *haystack, size_t haystack_len) {
     size_t count = 0;
     literal_count_in(search->prepared, search->prepared_len, (const uint8_t *)haystack, haystack_len, 0, haystack_len,
                      &count);
@@ -608,12 +658,8 @@ static inline int literal_pass(const literal_match *found, size_t found_len,
     return answer;
 }
 
-/* Passes each match in the haystack to a function, with the context: first the leftmost match, and then the leftmost
- * one after each match. If the function returns another number than 0, no more matches are passed, and the number is
- * returned; else 0. For many matches this is faster than literal_next. By a search of literal_new_overlapping it finds
- * nothing, and returns 0. */
-static inline int literal_each(const literal_search *search, const void *haystack, size_t haystack_len,
-                               int (*function)(void *context, literal_match found), void *context) {
+LITERAL_API int literal_each(const literal_search *search, const void *haystack, size_t haystack_len,
+                             int (*function)(void *context, literal_match found), void *context) {
     literal_match found[128];
     literal_page page = {0, 0, 0};
     int answer = 0;
@@ -627,13 +673,8 @@ static inline int literal_each(const literal_search *search, const void *haystac
     return answer;
 }
 
-/* The same for every occurrence, by a search of literal_new_overlapping: in the order of their ends and, at one end, of
- * their pattern numbers. By another search nothing is passed. The occurrences are found in pages of 128. If a page goes
- * on by less than the length of the longest pattern, the next page has twice the room, in allocated memory, so that few
- * bytes are read again. If this memory is refused, the room stays as it is: the same occurrences are passed, but more
- * slowly. The memory is freed at the end, so the function must return: without longjmp, and without an exception. */
-static inline int literal_each_overlapping(const literal_search *search, const void *haystack, size_t haystack_len,
-                                           int (*function)(void *context, literal_match found), void *context) {
+LITERAL_API int literal_each_overlapping(const literal_search *search, const void *haystack, size_t haystack_len,
+                                         int (*function)(void *context, literal_match found), void *context) {
     literal_match few[128], *many = NULL, *more;
     literal_page page = {0, 0, 0};
     literal_info info = {0, 0, 0, 0, 0};
@@ -664,6 +705,8 @@ static inline int literal_each_overlapping(const literal_search *search, const v
     free(many);
     return answer;
 }
+
+#endif /* LITERAL_IMPORT */
 
 #ifdef __cplusplus
 }

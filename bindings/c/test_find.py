@@ -1,6 +1,7 @@
 """Compiles the header and the programs in C, and runs them: under the sanitizers, with little stack, by each build for
 x86-64, on an older processor, for aarch64, and with musl, another C library. It takes the libraries of dist/, and the
-shared one from where bindings/test installs it."""
+shared one from where bindings/test installs it. The sources in dist/ that replace a C library are tested too."""
+import itertools
 import os
 import re
 import shutil
@@ -12,21 +13,28 @@ from pathlib import Path
 
 HERE = Path(__file__).resolve().parent
 DIST = HERE.parents[1] / "dist"
+STATIC = DIST / "x86_64-linux"
 LIBRARY, FOR_ARM = (DIST / f"{it}-linux-gnu/libliteral_search.a" for it in ("x86_64", "aarch64"))
 SHARED = HERE.parent / "out/lib/libliteral_search.so"
+VERSION = "LITERAL_SEARCH_0"  # of the names of the shared library
 WARNINGS = ["-Wall", "-Wextra", "-Wpedantic", "-Wconversion", "-Werror", f"-I{HERE}"]
 SANITIZED = ["-g", "-fsanitize=address,undefined", "-fno-sanitize-recover=all"]
 ALONE = ["-fsyntax-only", "-include", "literal_search.h", "/dev/null"]
 # A program that prints which level of processors dist/choose.s chooses, and which one the compiler finds.
-LEVEL = """#include <stdio.h>
-int level(void);
+LEVELS = """
 int two(void) __asm__("level.v2");
 int two(void) { return 2; }
 int three(void) __asm__("level.v3");
 int three(void) { return 3; }
+"""
+LEVEL = """#include <stdio.h>
+int level(void);
 int main(void) { return printf("%d %d", level(), __builtin_cpu_supports("x86-64-v3") ? 3 : 2) < 0; }
 """
-CROSS, MUSL = "aarch64-linux-gnu-gcc", "musl-gcc"
+CROSS, MUSL, MINGW = "aarch64-linux-gnu-gcc", "musl-gcc", "x86_64-w64-mingw32-gcc"
+FOR_WINDOWS, DLL, IMPORTS = (DIST / "x86_64-windows" / it
+                             for it in ("libliteral_search.a", "literal_search.dll", "libliteral_search.dll.a"))
+WINE = "/usr/lib/wine/wine64"
 TEXT = "Nobody likes maple in their apple flavored Snapple.\n"
 WORDS, FOUND = ["apple", "maple", "Snapple"], "1 13 18\n0 28 33\n2 43 50\n"
 PROGRAMS = (("litfind", ("longest", *WORDS)), ("litscan", ("-n", "-e", "apple", "-e", "maple", "-e", "they")))
@@ -77,17 +85,23 @@ class Programs(unittest.TestCase):
 
     def level(self, *words, compiler="cc"):
         """A program that prints which build dist/choose.s chooses, and which one the compiler would."""
-        source, program = Path(self.room.name, "level.s"), f"{self.room.name}/level-{compiler}"
-        source.write_text((DIST / "choose.s").read_text("ascii") + "export level\n", "ascii")
-        command = [compiler, *words, "-xc", "-", "-xassembler", str(source), "-o", program]
-        self.assertEqual(run(*command, text=LEVEL), (0, ""))
+        program = f"{self.room.name}/level-{compiler}"
+        command = [compiler, *words, "-xc", "-", "-xassembler-with-cpp", self.choice_of_level(), "-o", program]
+        self.assertEqual(run(*command, text=LEVEL + LEVELS), (0, ""))
         return program
+
+    def choice_of_level(self):
+        """A source in assembly that chooses."""
+        source = Path(self.room.name, "level.s")
+        source.write_text((DIST / "choose.s").read_text("ascii") + "export level\n", "ascii")
+        return str(source)
 
 
 class Find(Programs):
     def test_header(self):
-        self.assertEqual(run("cc", "-std=c11", *WARNINGS, "-xc", *ALONE), (0, ""))
-        self.assertEqual(run("c++", "-std=c++17", *WARNINGS, "-xc++", *ALONE), (0, ""))
+        for words in ([], ["-DLITERAL_EXPORT"], ["-DLITERAL_IMPORT"]):
+            self.assertEqual(run("cc", "-std=c11", *WARNINGS, *words, "-xc", *ALONE), (0, ""))
+            self.assertEqual(run("c++", "-std=c++17", *WARNINGS, *words, "-xc++", *ALONE), (0, ""))
 
     def test_find_sanitized(self):
         refused = (2, "find: a pattern is empty, or there are too many patterns\n")
@@ -144,9 +158,9 @@ class Find(Programs):
         for words in processors:
             self.assertIn(run(*words, program, stderr=subprocess.DEVNULL), ((0, "2 2"), (0, "3 3")), words)
             self.assertEqual(run(*words, find, *WORDS, text=TEXT, stderr=subprocess.DEVNULL), (0, FOUND), words)
-            for name, given in PROGRAMS:
-                found = run(*words, LIBRARY.with_name(name), *given, text=TEXT, stderr=subprocess.DEVNULL)
-                self.assertEqual(found, run(LIBRARY.with_name(name), *given, text=TEXT), words)
+            for folder, (name, given) in itertools.product((LIBRARY.parent, STATIC), PROGRAMS):
+                found = run(*words, folder / name, *given, text=TEXT, stderr=subprocess.DEVNULL)
+                self.assertEqual(found, run(folder / name, *given, text=TEXT), words)
                 self.assertEqual(found[0], 0)
 
     @unittest.skipUnless("refuse" in REFUSER, "run by bindings/test")
@@ -165,10 +179,21 @@ class Find(Programs):
         self.assertGreater(told, 2)
 
     def test_only_the_header_s_names_are_shown(self):
-        names = set(run("sed", "-n", r"s/^u\?int32_t \(literal_\w*\)(.*/\1/p", f"{HERE}/literal_search.h")[1].split())
-        self.assertGreater(len(names), 9)
-        for words in (("-g", LIBRARY), ("-g", FOR_ARM), ("-D", SHARED)):
-            self.assertEqual(exports(*words), names)
+        header = (HERE / "literal_search.h").read_text("ascii")
+        names = set(re.findall(r"^u?int32_t (literal_\w+)\(", header, re.M))
+        defined = set(re.findall(r"^LITERAL_API .*?(literal_\w+)\(", header, re.M))
+        self.assertGreater(min(len(names), len(defined)), 8)
+        for library in (LIBRARY, FOR_ARM, FOR_WINDOWS):
+            self.assertEqual(exports("-g", library), names)
+        self.assertEqual(exports("-D", SHARED), {VERSION, *(f"{it}@@{VERSION}" for it in names | defined)})
+
+    def test_find_with_the_shared_library_alone(self):
+        """It calls the shared library's copies of the functions that the header defines."""
+        find = self.compiled("find", "-DLITERAL_IMPORT", f"-Wl,-rpath,{SHARED.parent}", library=SHARED)
+        self.assertEqual(run(find, *WORDS, text=TEXT), (0, FOUND))
+        called = ("each", "free", "new_of_words", "status_text")
+        needed = set(re.findall(r" U (literal_\w+@\w+)", run("nm", "-uD", find)[1]))
+        self.assertEqual(needed, {f"literal_{it}@{VERSION}" for it in called})
 
     def test_what_the_archives_need(self):
         """Functions that every C library has, and neither thread-local variables nor ifuncs."""
@@ -187,6 +212,9 @@ class Find(Programs):
         if shutil.which("qemu-x86_64"):
             status, said = run("qemu-x86_64", "-cpu", "core2duo", find, "a", text=TEXT)
             self.assertEqual((status, said), (127, f"{find}: CPU ISA level is lower than required\n"))
+            status, said = run("qemu-x86_64", "-cpu", "core2duo", STATIC / "litscan", "a", text=TEXT)
+            self.assertEqual(status, 127)
+            self.assertIn("x86-64-v2", said)
 
 
 @unittest.skipUnless(all(map(shutil.which, (CROSS, "qemu-aarch64"))), f"there is no {CROSS}, or no qemu-aarch64")
@@ -226,6 +254,95 @@ class OnMusl(Programs):
             self.assertEqual(run(self.level(*words, compiler=MUSL)), here)
 
 
+@unittest.skipUnless(shutil.which(MINGW) and os.access(WINE, os.X_OK), f"there is no {MINGW}, or no {WINE}")
+class OnWindows(Programs):
+    """With the archive, and with the DLL, by wine."""
+
+    def on_windows(self, program, *words, **how):
+        """The status of a program, to whose name the compiler added an ending, and what it wrote."""
+        given = {**PLAIN, "WINEPREFIX": f"{self.room.name}/wine", "WINEDEBUG": "-all"}
+        return run(WINE, f"{program}.exe", *words, env=given, stderr=subprocess.DEVNULL, **how)
+
+    def compiled_for_windows(self, name, *words, library=FOR_WINDOWS):
+        """A program, compiled."""
+        return self.compiled(name, "-static", *words, library=library, compiler=MINGW)
+
+    def test_calls(self):
+        calls = self.compiled_for_windows("calls")
+        self.assertEqual(self.on_windows(calls), (0, ""))
+        self.assertEqual(self.on_windows(calls, "stack"), (0, ""))
+
+    def test_same_matches(self):
+        program = self.compiled_for_windows("find")
+        for count, text in ((3, TEXT), (400, (HERE / "find.c").read_text("ascii"))):
+            words = [*WORDS, *sorted(set(re.findall(r"\w{3,}", text)))][:count]
+            here = run(self.compiled("find"), *words, text=text)
+            self.assertGreater(here[1].count("\n"), 2)
+            self.assertEqual(self.on_windows(program, *words, text=text), here)
+
+    def test_with_the_dll(self):
+        """Programs call its copies of the functions that the header defines, or their own ones."""
+        shutil.copy(DLL, self.room.name)
+        find = self.compiled_for_windows("find", "-DLITERAL_IMPORT", library=IMPORTS)
+        called = self.tables(f"{find}.exe")["literal_search.dll"]
+        self.assertEqual(called, {f"literal_{it}" for it in ("each", "free", "new_of_words", "status_text")})
+        self.assertEqual(self.on_windows(find, *WORDS, text=TEXT), (0, FOUND))
+        calls = self.compiled_for_windows("calls", library=IMPORTS)
+        self.assertGreater(len(self.tables(f"{calls}.exe")["literal_search.dll"]), 20)
+        self.assertEqual(self.on_windows(calls), (0, ""))
+        self.assertEqual(self.on_windows(calls, "stack"), (0, ""))
+
+    def tables(self, file):
+        """The names in the tables of a program or a DLL, by the DLL that has them; those that it exports by its own."""
+        found, names = {}, set()
+        for line in run(f"{MINGW[:-3]}objdump", "-p", file)[1].splitlines():
+            dll = re.search(r"DLL Name: (\S+)|Name\s.*\s(\S+\.dll)$", line)
+            names = found.setdefault(dll[1] or dll[2], set()) if dll else names
+            names.update(re.findall(r"^\t(?:[0-9a-f]+\s+[0-9]+  |\[ *[0-9]+\] )(\w+)$", line))
+        return found
+
+    def test_what_the_dll_exports_and_needs(self):
+        """It exports the names of the shared library, and needs no DLL but one that each Windows has."""
+        tables = self.tables(DLL)
+        self.assertEqual({VERSION, *(f"{it}@@{VERSION}" for it in tables["literal_search.dll"])}, exports("-D", SHARED))
+        self.assertEqual(set(tables), {"literal_search.dll", "msvcrt.dll"})
+
+    def test_choice_of_the_build(self):
+        """The constructor that makes it runs before main."""
+        here = run(self.level())
+        self.assertEqual(self.on_windows(self.level(compiler=MINGW)), here)
+
+    def test_what_is_added_to_a_dll(self):
+        """dist/dll.c runs the constructor when a program loads the DLL, and probes the stack."""
+        dll, program, headers = (Path(self.room.name, it) for it in ("level.dll", "level-of-dll", "headers"))
+        headers.mkdir()
+        for header in ("stdbool", "stddef", "stdint", "stdlib", "string"):
+            (headers / f"{header}.h").touch()
+        words = ["-O2", "-shared", "-nostartfiles", "-nostdinc", f"-I{headers}", f"-I{HERE}", "-Wl,-e,start"]
+        words += ["-DLITERAL_EXPORT", "-Wl,--export-all-symbols", f"-Wl,--out-implib={dll}.a", "-xc", "-"]
+        words += [DIST / "dll.c", "-xassembler-with-cpp", self.choice_of_level(), "-xnone", FOR_WINDOWS]
+        self.assertEqual(run(MINGW, *words, "-o", dll, text=LEVELS), (0, ""))
+        self.assertEqual(run(MINGW, "-xc", "-", "-xnone", f"{dll}.a", "-o", f"{program}.exe", text=LEVEL), (0, ""))
+        self.assertEqual(self.on_windows(program), run(self.level()))
+        calls = self.compiled_for_windows("calls", library=f"{dll}.a")
+        self.assertEqual(self.on_windows(calls, "stack"), (0, ""))
+
+
+class WithoutLibrary(Programs):
+    """dist/system.c and dist/malloc.c. dist/build compiles them with the kit's compiler, which not each machine has."""
+    FLAGS = ["-O2", "-ffreestanding", "-fno-builtin", "-fno-tree-loop-distribute-patterns", "-fno-stack-protector"]
+    FLAGS += ["-nostdlib", "-static", "-no-pie", *(str(DIST / it) for it in ("system.c", "malloc.c"))]
+
+    def test_here(self):
+        program = self.compiled("system_calls", *self.FLAGS, library="-lgcc")
+        self.assertEqual(run(program, "a", "word"), (0, ""))
+
+    @unittest.skipUnless(all(map(shutil.which, (CROSS, "qemu-aarch64"))), f"there is no {CROSS}, or no qemu-aarch64")
+    def test_on_arm(self):
+        program = self.compiled("system_calls", *self.FLAGS, library="-lgcc", compiler=CROSS)
+        self.assertEqual(run("qemu-aarch64", program, "a", "word"), (0, ""))
+
+
 class Build(unittest.TestCase):
     def setUp(self):
         room = tempfile.TemporaryDirectory()
@@ -234,7 +351,8 @@ class Build(unittest.TestCase):
 
     def test_what_is_missing(self):
         binutils = ("ld", "objcopy", "strip", "ar", "nm")
-        tools = ("rt", *binutils, *(f"aarch64-linux-gnu-{it}" for it in binutils))
+        kinds = ("", "aarch64-linux-gnu-", "x86_64-w64-mingw32-")
+        tools = ("rt", *map("".join, itertools.product(kinds, binutils)))
         for name in tools:
             folder = self.room / f"no {name}"
             folder.mkdir(parents=True)

@@ -2,6 +2,7 @@
 the programs. Compares what is written of options and of the version in several places."""
 import os
 import re
+import runpy
 import shlex
 import shutil
 import subprocess
@@ -24,7 +25,6 @@ FILES = ["bin/litscan", "bin/litfind", "include/literal_search.h", "lib/libliter
          "lib/cmake/literal_search/literal_search-config.cmake",
          "lib/cmake/literal_search/literal_search-config-version.cmake",
          *(str(it.relative_to(TOP)) for it in (PAGE, BASH, ZSH, FISH))]
-LIBRARY_FILES = {it for it in FILES if it.startswith(("include/", "lib/"))}
 TOOLS = ("sh", "dirname", "readlink", "sed", "mkdir", "cp", "mv", "rm", "ln", "chmod", "cat", "mktemp")
 
 CMAKE = """cmake_minimum_required(VERSION 3.13)
@@ -36,7 +36,7 @@ target_link_libraries(find literal_search::literal_search)
 add_executable(find_static find.c)
 target_link_libraries(find_static literal_search::static)
 """
-MUSL = ("musl-gcc", "musl-ldd")
+MUSL, CROSS = ("musl-gcc", "musl-ldd"), "aarch64-linux-gnu-gcc"
 AS_MUSL = "echo 'musl libc (x86_64)' >&2; exit 1"
 
 # Where bindings/test runs this, a library that refuses a request for memory stands before the C library.
@@ -215,19 +215,36 @@ class Install(unittest.TestCase):
             self.install(self.prefix, env=self.path_of(*TOOLS, **{**here, "getconf": f"echo glibc {glibc}"}))
 
     def test_on_arm(self):
-        """The library alone, from its folder in dist/."""
+        """The library and the static programs, from their folders in dist/."""
         machine = {"uname": '[ "$1" = -m ] && echo aarch64 || echo Linux', "getconf": "echo glibc 2.34"}
         self.assertEqual(run(INSTALL, self.prefix, env=self.path_of(*TOOLS, **machine))[0], 0)
-        self.assertEqual(set(self.installed()), {it for it in LIBRARY_FILES if ".so" not in it})
-        given = (TOP / "dist/aarch64-linux-gnu/libliteral_search.a").read_bytes()
-        self.assertEqual((self.prefix / "lib/libliteral_search.a").read_bytes(), given)
+        self.assert_installed_for("aarch64")
+
+    def assert_installed_for(self, processor):
+        """All files but the shared library are there, with the library and the static programs for a processor."""
+        self.assertEqual(set(self.installed()), {it for it in FILES if ".so" not in it})
+        for file, given in (("lib/libliteral_search.a", "-gnu"), ("bin/litscan", ""), ("bin/litfind", "")):
+            folder = TOP / f"dist/{processor}-linux{given}"
+            self.assertEqual((self.prefix / file).read_bytes(), (folder / Path(file).name).read_bytes(), file)
+
+    @unittest.skipUnless(all(map(shutil.which, (CROSS, "qemu-aarch64"))), f"there is no {CROSS}, or no qemu-aarch64")
+    def test_for_arm(self):
+        """All files, with a shared library by a compiler for aarch64, and programs that run."""
+        machine = self.path_of(uname='[ "$1" = -m ] && echo aarch64 || echo Linux', getconf="echo glibc 2.34")
+        given = {**machine, "PATH": f"{machine['PATH']}:{PLAIN['PATH']}", "CC": CROSS}
+        self.assertEqual(run(INSTALL, self.prefix, env=given)[0], 0)
+        self.assertEqual(set(self.installed()), set(FILES))
+        self.assertEqual(run("qemu-aarch64", self.prefix / "bin/litscan", "maple", text=TEXT), (0, TEXT))
+        find, lib = self.room / "find", self.prefix / "lib"
+        words = ["-DLITERAL_IMPORT", f"-I{self.prefix}/include", f"-L{lib}", f"-Wl,-rpath,{lib}"]
+        self.assertEqual(run(CROSS, *words, self.example(), "-lliteral_search", "-o", find), (0, ""))
+        self.assertEqual(run("qemu-aarch64", "-L", "/usr/aarch64-linux-gnu", find, *WORDS, text=TEXT), (0, FOUND))
 
     def test_on_musl(self):
-        """The library alone, since the programs need glibc."""
+        """The library and the static programs, since the other programs need glibc."""
         machine = {"uname": '[ "$1" = -m ] && echo x86_64 || echo Linux', "getconf": "exit 1", "ldd": AS_MUSL}
         self.assertEqual(run(INSTALL, self.prefix, env=self.path_of(*TOOLS, **machine))[0], 0)
-        self.assertEqual(set(self.installed()), {it for it in LIBRARY_FILES if ".so" not in it})
-        self.assertEqual((self.prefix / "lib/libliteral_search.a").read_bytes(), ARCHIVE.read_bytes())
+        self.assert_installed_for("x86_64")
 
     @unittest.skipUnless(all(map(shutil.which, (*MUSL, "pkg-config"))), f"there is no {MUSL[0]}, or no pkg-config")
     def test_for_musl(self):
@@ -236,7 +253,7 @@ class Install(unittest.TestCase):
         machine = self.path_of(getconf="exit 1", ldd=f'exec {ldd} "$@"')
         given = {**machine, "PATH": f"{machine['PATH']}:{PLAIN['PATH']}", "CC": compiler}
         self.assertEqual(run(INSTALL, self.prefix, env=given)[0], 0)
-        self.assertEqual(set(self.installed()), LIBRARY_FILES)
+        self.assertEqual(set(self.installed()), set(FILES))
         self.assertIn("[libc.so]", run("readelf", "-d", self.prefix / "lib/libliteral_search.so.0")[1])
         self.assert_linked(compiler=compiler, ldd=ldd)
 
@@ -292,18 +309,27 @@ class Options(unittest.TestCase):
 
 class Version(unittest.TestCase):
     def test_same_everywhere(self):
-        version = re.search(r'#define LITERAL_VERSION "(.*)"', library.HEADER)[1]
-        major, minor, patch = map(int, version.split("."))
-        self.assertEqual(library.NUMBERS["VERSION_NUMBER"], 1000000 * major + 1000 * minor + patch)
         self.assertEqual(library.load().literal_version(), library.NUMBERS["VERSION_NUMBER"])
-        for path, wanted in {
-            SCAN: f'"litscan {version}\\n"', FIND: f'"litfind {version}\\n"', PAGE: f'"litscan {version}"',
-            TOP / "bindings/rust/Cargo.toml": f'+literal-search.{version}"\n',
-            TOP / "bindings/rust/Cargo.lock": f'+literal-search.{version}"\n',
-            TOP / "bindings/c/literal_search-config-version.cmake": f"(PACKAGE_VERSION {version})\n",
-        }.items():
-            self.assertIn(wanted, read(path), path)
-        self.assertEqual(re.search(r"^## (\S+)", read(TOP / "CHANGELOG.md"), re.M)[1], version)
+        status, said = run(TOP / "dist/version")
+        self.assertEqual(status, 0, said)
+
+    def test_written_everywhere(self):
+        """In copies of the files another version is written, and each place that has the old one is noticed."""
+        folder = tempfile.TemporaryDirectory()
+        self.addCleanup(folder.cleanup)
+        room = Path(folder.name)
+        script = runpy.run_path(str(TOP / "dist/version"))
+        for path in {it for it, _ in script["PLACES"] + script["HEADINGS"]} | {"dist/version", "checks/judged.py"}:
+            (room / path).parent.mkdir(parents=True, exist_ok=True)
+            shutil.copy(TOP / path, room / path)
+        status, said = run(room / "dist/version", "12.3.45")
+        self.assertEqual((status, said.splitlines()[-1]), (1, f"{len(script['PLACES'])} passed, 2 failed"))
+        self.assertIn("#define LITERAL_VERSION_NUMBER 12003045\n", read(room / script["HEADER"]))
+        for path in {it for it, _ in script["PLACES"]} - {script["HEADER"]}:
+            new = read(room / path)
+            shutil.copy(TOP / path, room / path)
+            self.assertIn(f"FAILED {path}, ", run(room / "dist/version")[1])
+            (room / path).write_text(new, "utf-8")
 
 
 if __name__ == "__main__":

@@ -16,6 +16,7 @@ import pickle
 import secrets
 import stat
 import struct
+import sys
 import zlib
 from contextlib import suppress
 from itertools import accumulate, chain
@@ -30,14 +31,14 @@ except ImportError as why:
         raise
     raise ImportError("literal_search needs a processor of the level x86-64-v2 (SSE4.2 and POPCNT)") from why
 from ._native import __version__
-from ._types import Column, Kind, Match
+from ._types import Chunks, Column, Kind, Match
 
 if TYPE_CHECKING:
     from _typeshed import ReadableBuffer, StrPath, SupportsRead, SupportsWrite
 
-    from ._native import _Offset, _Replacement
+    from ._native import _Numbers, _Offset, _Replacement
 
-    _Buffers = Union[Iterable[Optional[ReadableBuffer]], Column]
+    _Buffers = Union[Iterable[Optional[ReadableBuffer]], Column, Chunks]
 
 __all__ = ["Kind", "Match", "Search", "__version__"]
 
@@ -47,7 +48,7 @@ _SHOWN, _LINE, _CUT = 8, 120, 20
 
 _Any = TypeVar("_Any", bound="Search[Any]")
 _Case = Union[bool, Literal["ascii"]]
-_Strs = Union[Iterable[Optional[str]], Column]
+_Strs = Union[Iterable[Optional[str]], Column, Chunks]
 
 # A file of a searcher: these words first, the kind, 1 if case is ignored, 2 more for whole words, and 4 more if only the
 # case of ASCII is, though the patterns are str; whether the patterns are str, their number, their length and the length
@@ -202,8 +203,9 @@ class Search(_native.Prepared[AnyStr]):
 
     def find_each(self, texts: Any, skip_missing: bool = False) -> List[Optional[Match[Any]]]:
         """The leftmost match of each text, or None. Offsets are in that text. The texts may be a column of pandas, an
-        array of numpy, or one of Arrow (texts or bytes with offsets, by `__arrow_c_array__`), whose short texts are
-        searched where they are. With `skip_missing`, None and NaN, but not pandas.NA, count as a text without a match.
+        array of numpy, or a column of Arrow: an array (by `__arrow_c_array__`) or chunks (by `__arrow_c_stream__`, as of
+        polars), whose short texts are searched where they are. With `skip_missing`, None, NaN and pandas.NA count as a
+        text without a match.
 
         >>> Search(["ERROR", "WARN"]).find_each(["a WARN", "fine", "ERROR"])
         [Match(pattern=1, start=2, end=6), None, Match(pattern=0, start=0, end=5)]
@@ -247,6 +249,24 @@ class Search(_native.Prepared[AnyStr]):
         count: Callable[[Any], int] = self.count
         return [count(it) for it in _cells(self, texts, skip_missing)]
 
+    @overload
+    def find_columns_each(self: "Search[str]", texts: _Strs, skip_missing: bool = False) -> "_Numbers": ...
+
+    @overload
+    def find_columns_each(self: "Search[bytes]", texts: "_Buffers", skip_missing: bool = False) -> "_Numbers": ...
+
+    def find_columns_each(self, texts: Any, skip_missing: bool = False) -> "_Numbers":
+        """The matches that `findall_each` lists, as four arrays of 64-bit integers: the rows, which are the numbers of
+        the texts, the patterns, the starts and the ends. An array lends its buffer, so `numpy.asarray` copies nothing.
+        Texts are as of `find_each`; no objects are made for those of Arrow, except with whole words for texts with a
+        character beyond ASCII. An error of a text names its index.
+
+        >>> [list(it) for it in Search(["a", "b"]).find_columns_each(["ab", None, "éa"], skip_missing=True)]
+        [[0, 0, 2], [0, 1, 0], [0, 1, 1], [1, 2, 2]]
+        """
+        is_column = _is_column(texts)
+        return self._columns_each(texts if is_column else _many(texts), is_column, skip_missing, _missing())
+
     def finditer_stream(self, file: "SupportsRead[Optional[AnyStr]]") -> Iterator[Match[AnyStr]]:
         """Yields all matches in a file, up to its end, as `finditer` does in the whole text, whatever pieces it comes
         in. Offsets are in the whole text, and each match has a copy of the matched part.
@@ -279,7 +299,7 @@ class Search(_native.Prepared[AnyStr]):
         >>> [it.span() for it in Search(["aba", "b"]).finditer_overlapping_stream(StringIO("ababa"))]
         [(1, 2), (0, 3), (3, 4), (2, 5)]
         """
-        return _stream.occurrences(_stream.for_stream(self), file)
+        return chain.from_iterable(_stream.occurrences(_stream.for_stream(self), file))
 
     def count_stream(self, file: "SupportsRead[Optional[AnyStr]]") -> int:
         """The number of matches that `finditer_stream` yields.
@@ -510,16 +530,27 @@ def _has_objects(view: memoryview) -> bool:
 
 
 def _is_column(of: Any) -> bool:
-    """Whether it is a column of Arrow: it lends its texts by the C data interface."""
-    return hasattr(type(of), "__arrow_c_array__")
+    """Whether it is a column of Arrow: it lends its texts by the C data interface, as an array or in chunks. A column of
+    pandas that has objects of Python is none: pandas would copy it, and needs a package for it."""
+    kind, dtype = type(of), getattr(of, "dtype", None)
+    if hasattr(kind, "__arrow_c_array__"):
+        return True
+    has_objects = getattr(dtype, "hasobject", False) or getattr(dtype, "storage", None) == "python"
+    return hasattr(kind, "__arrow_c_stream__") and not has_objects
+
+
+def _missing() -> Any:
+    """pandas.NA, or None, which is missing too: without pandas nobody has the other one."""
+    return getattr(sys.modules.get("pandas"), "NA", None)
 
 
 def _cells(searcher: "Search[Any]", texts: Iterable[Any], skip_missing: bool) -> Iterable[Any]:
-    """Texts, and an empty one in the place of None and NaN if these are skipped."""
+    """Texts, and an empty one in the place of each that is missing, if these are skipped."""
     if not skip_missing:
         return _many(texts)
     empty: Union[str, bytes] = "" if _are_str(searcher) else b""
-    return (empty if it is None or isinstance(it, float) and it != it else it for it in _many(texts))
+    missing = _missing()
+    return (empty if it is None or it is missing or isinstance(it, float) and it != it else it for it in _many(texts))
 
 
 def _many(of: Iterable[Any]) -> Iterable[Any]:

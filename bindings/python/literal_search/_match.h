@@ -57,9 +57,11 @@ static PyObject *new_match(const size_t shown[SHOWN], PyObject *text, PyObject *
 }
 
 /* A match that has what was matched and its value, and no text. */
-static PyObject *match_of_its_own(const size_t shown[SHOWN], PyObject *group, PyObject *value) {
+static PyObject *match_of_its_own(const size_t shown[SHOWN], PyObject *group, PyObject *value, bool leads_on) {
     PyObject *pair = PyTuple_Pack(2, group, value);
-    PyObject *match = pair ? new_match(shown, NULL, pair, true) : NULL;
+    PyObject *match = pair ? new_match(shown, NULL, pair, leads_on) : NULL;
+    if (pair && !leads_on)
+        PyObject_GC_UnTrack(pair);
     Py_XDECREF(pair);
     return match;
 }

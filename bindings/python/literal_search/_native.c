@@ -8,11 +8,13 @@
  * Nothing here is proved. The library is; it is handed what the header asks for. */
 #include "_python.h"
 
+#include "_arrow.h"
 #include "_column.h"
 #include "_match.h"
 #include "_patterns.h"
 #include "_prepared.h"
 #include "_replace.h"
+#include "_rows.h"
 #include "_text.h"
 #include "_walk.h"
 #include "literal_search.h"
@@ -156,16 +158,10 @@ static PyObject *search_find_overlapping(PyObject *self, PyObject *const *given,
     return all_of((Prepared *)self, given, count, names, true);
 }
 
-/* The matched part alone. It is the pattern itself, without a copy, if that has the same bytes and type, and if pieces
- * are not folded. */
+/* The matched part alone: the pattern, or a copy. */
 static PyObject *string_of(Walk *walk, const literal_match *found) {
-    const Pieces *pieces = &walk->search->pieces;
-    PyObject *pattern = PyTuple_GET_ITEM(walk->search->patterns, (Py_ssize_t)found->pattern);
-    size_t start = found->pattern > 0 ? pieces->ends[found->pattern - 1] : 0, len = found->end - found->start;
-    const uint8_t *bytes = pieces->bytes + start, *matched = walk->text.bytes + found->start;
-    if (walk->search->takes != TAKES_FOLDED && pieces->ends[found->pattern] - start == len &&
-        (PyUnicode_CheckExact(pattern) || PyBytes_CheckExact(pattern)) && bytes[0] == matched[0] &&
-        (len == 1 || memcmp(bytes, matched, len) == 0))
+    PyObject *pattern = pattern_as_matched(walk, found);
+    if (pattern)
         return Py_NewRef(pattern);
     Place first = walk->place;
     offset_of(&walk->text, &first, found->start);
@@ -193,78 +189,16 @@ static PyObject *search_findall_strings(PyObject *self, PyObject *const *given, 
     return strings;
 }
 
-/* Matches as columns: so many are written at once to the arrays. */
-enum { CHUNK = 256 };
-
-/* The type of the arrays, and the name of a method, which is looked up by the same object each time. */
-static PyObject *array_type, *frombytes_name;
-
-static int columns_ready(void) {
-    PyObject *module = PyImport_ImportModule("array");
-    array_type = module ? PyObject_GetAttrString(module, "array") : NULL;
-    frombytes_name = PyUnicode_InternFromString("frombytes");
-    Py_XDECREF(module);
-    return array_type && frombytes_name ? 0 : -1;
-}
-
-/* Three empty arrays. */
-static PyObject *empty_columns(void) {
-    PyObject *columns = PyTuple_New(SHOWN);
-    for (int i = 0; columns && i < SHOWN; i++) {
-        PyObject *column = PyObject_CallFunction(array_type, "s", "q");
-        if (column)
-            PyTuple_SET_ITEM(columns, i, column);
-        else
-            Py_CLEAR(columns);
-    }
-    return columns;
-}
-
-/* Adds so many rows to the columns. */
-static int add_rows(PyObject *columns, int64_t rows[SHOWN][CHUNK], size_t count) {
-    for (int i = 0; i < SHOWN; i++) {
-        PyObject *bytes = PyBytes_FromStringAndSize((const char *)rows[i], (Py_ssize_t)(count * sizeof(int64_t)));
-        PyObject *column = PyTuple_GET_ITEM(columns, i), *none = NULL;
-        if (bytes)
-            none = PyObject_CallMethodObjArgs(column, frombytes_name, bytes, NULL);
-        Py_XDECREF(bytes);
-        Py_XDECREF(none);
-        if (!none)
-            return -1;
-    }
-    return 0;
-}
-
-/* Adds all that a walk finds to the columns. */
-static int add_all(PyObject *columns, Walk *walk) {
-    int64_t rows[SHOWN][CHUNK];
-    size_t shown[SHOWN], count = 0;
-    const literal_match *found;
-    while ((found = walk_next(walk))) {
-        show(&walk->text, &walk->place, found, shown);
-        for (int i = 0; i < SHOWN; i++)
-            rows[i][count] = (int64_t)shown[i];
-        if (++count == CHUNK) {
-            if (add_rows(columns, rows, count))
-                return -1;
-            count = 0;
-        }
-    }
-    return PyErr_Occurred() ? -1 : add_rows(columns, rows, count);
-}
-
 PyDoc_STRVAR(find_columns_doc, "find_columns($self, /, text, start=0, end=None)\n--\n\n"
 "The matches that `findall` lists, as three arrays of 64-bit integers: the patterns, the starts and the ends. An array\n"
 "lends its buffer, so `numpy.asarray` copies nothing.");
 
 static PyObject *search_find_columns(PyObject *self, PyObject *const *given, Py_ssize_t count, PyObject *names) {
-    PyObject *asked[3], *columns;
+    PyObject *asked[3];
     Walk walk;
     if (arguments(OF_SEARCH, 1, given, count, names, asked) || walk_begin(&walk, (Prepared *)self, false, asked))
         return NULL;
-    columns = empty_columns();
-    if (columns && add_all(columns, &walk))
-        Py_CLEAR(columns);
+    PyObject *columns = columns_of(&walk);
     walk_end(&walk);
     return columns;
 }
@@ -450,19 +384,32 @@ static PyObject *search_so_far(PyObject *of, PyObject *given) {
 }
 
 PyDoc_STRVAR(each_doc, "_each($self, column, skip_missing, counts, /)\n--\n\n"
-"The first match of each text of a column that has `__arrow_c_array__`, or the numbers of matches.");
+"The first match of each text of a column of Arrow, or the numbers of matches.");
 
 static PyObject *search_each(PyObject *of, PyObject *given) {
     Prepared *self = (Prepared *)of;
     PyObject *from, *answer = NULL;
-    Column column;
+    Source source;
     int skips, counts;
-    if (!PyArg_ParseTuple(given, "Opp:_each", &from, &skips, &counts) || hold_column(&column, from))
+    if (!PyArg_ParseTuple(given, "Opp:_each", &from, &skips, &counts) || hold_source(&source, from))
         return NULL;
-    if (!check_type(self, &column))
-        answer = found_in_each(self, &column, skips, counts);
-    give_back_column(&column);
+    if (!check_type(self, &source.column))
+        answer = found_in_each(self, &source, skips, counts);
+    give_back_source(&source);
     return answer;
+}
+
+PyDoc_STRVAR(columns_each_doc, "_columns_each($self, texts, is_column, skip_missing, missing, /)\n--\n\n"
+"All matches of all texts, of an iterable or of a column of Arrow, as four arrays: the numbers of the texts, and what\n"
+"`find_columns` returns. With `skip_missing`, `missing` is an object that is missing, as None and NaN are.");
+
+static PyObject *search_columns_each(PyObject *of, PyObject *given) {
+    Prepared *self = (Prepared *)of;
+    PyObject *from, *missing;
+    int is_column, skips;
+    if (!PyArg_ParseTuple(given, "OppO:_columns_each", &from, &is_column, &skips, &missing) || !is_ready(self->takes))
+        return NULL;
+    return is_column ? columns_of_source(self, from, skips) : columns_of_texts(self, from, skips ? missing : NULL);
 }
 
 /* ---- The iterator ---- */
@@ -615,15 +562,15 @@ static PyObject *module_plain_bytes(PyObject *unused, PyObject *given) {
 }
 
 PyDoc_STRVAR(texts_of_doc, "texts_of(column, /)\n--\n\n"
-"The texts of a column that has `__arrow_c_array__`, as a list of str or bytes, with None for each that is missing.");
+"The texts of a column of Arrow, as a list of str or bytes, with None for each that is missing.");
 
 static PyObject *module_texts_of(PyObject *unused, PyObject *from) {
-    Column column;
+    Source source;
     (void)unused;
-    if (hold_column(&column, from))
+    if (hold_source(&source, from))
         return NULL;
-    PyObject *texts = texts_of_column(&column);
-    give_back_column(&column);
+    PyObject *texts = texts_of_column(&source);
+    give_back_source(&source);
     return texts;
 }
 
@@ -671,6 +618,7 @@ static PyMethodDef search_methods[] = {
     {"_prepare", search_prepare, METH_VARARGS, prepare_doc},
     {"_so_far", search_so_far, METH_VARARGS, so_far_doc},
     {"_each", search_each, METH_VARARGS, each_doc},
+    {"_columns_each", search_columns_each, METH_VARARGS, columns_each_doc},
     {"__sizeof__", search_sizeof, METH_NOARGS, sizeof_doc},
     {"__class_getitem__", Py_GenericAlias, METH_O | METH_CLASS, "Search[str] and Search[bytes], for annotations."},
     {0},

@@ -8,6 +8,7 @@ __version__: str
 
 _Offset = Optional[SupportsIndex]
 _Columns = Tuple[array[int], array[int], array[int]]
+_Numbers = Tuple[array[int], array[int], array[int], array[int]]
 _Replacement = Union[AnyStr, Sequence[AnyStr], Callable[[Match[AnyStr]], AnyStr]]
 
 def plain_bytes(of: ReadableBuffer, name: str, /) -> bytes: ...
@@ -145,6 +146,7 @@ class Prepared(Generic[AnyStr]):
         self, part: AnyStr, start: int, before: int, more: bool, wanted: int, replacement: Any, /
     ) -> Tuple[Any, int, bool]: ...
     def _each(self, column: Any, skip_missing: bool, counts: bool, /) -> List[Any]: ...
+    def _columns_each(self, texts: Any, is_column: bool, skip_missing: bool, missing: Any, /) -> _Numbers: ...
     def _prepare(
         self,
         patterns: Iterable[Any],

@@ -140,10 +140,10 @@ def searched(searcher: "Prepared[Any]", file: Any, wanted: int, by: Any = None) 
         kept = source.length
 
 
-def occurrences(searcher: "Prepared[Any]", file: Any) -> Iterator[Match[Any]]:
-    """Every occurrence in a text, up to its end. The last bytes of a part are kept, one less than the longest pattern
-    has. Then more than that is read, so all parts together have at most twice the length of the text and of the longest
-    pattern; but less is read if the next read waits. If the file fails, the text before is searched first."""
+def occurrences(searcher: "Prepared[Any]", file: Any) -> Iterator[List[Match[Any]]]:
+    """Every occurrence in a text, up to its end, in lists. The last bytes of a part are kept, one less than the longest
+    pattern has. Then more than that is read, so all parts together have at most twice the length of the text and of the
+    longest pattern; but less is read if the next read waits. If the file fails, the text before is searched first."""
     source, lead = Source(file), max(map(len, searcher.patterns), default=1) - 1
     before = 0
     failure = None
@@ -157,7 +157,7 @@ def occurrences(searcher: "Prepared[Any]", file: Any) -> Iterator[Match[Any]]:
             at, is_done = old, False
             while not is_done:
                 found, at, is_done = searcher._so_far(source.held(), at, before, source.more, OCCURRENCES, None)
-                yield from found
+                yield found
             start = max(0, source.length - lead)
             before += start
             source.keep(start)

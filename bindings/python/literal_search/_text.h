@@ -132,13 +132,18 @@ static bool is_ready(Takes takes) {
     return takes != NOT_PREPARED;
 }
 
-/* Holds a text, of the type that is taken. */
-static int hold(Text *text, Takes takes, PyObject *of) {
-    bool is_str = PyUnicode_Check(of);
+/* Makes a text that holds nothing yet. */
+static void set_empty(Text *text, bool is_str) {
     text->of = text->buffer.obj = text->encoded = NULL;
     text->folded = text->sides = NULL;
     text->is_str = is_str;
     text->is_wide = false;
+}
+
+/* Holds a text, of the type that is taken. */
+static int hold(Text *text, Takes takes, PyObject *of) {
+    bool is_str = PyUnicode_Check(of);
+    set_empty(text, is_str);
     if (!is_ready(takes))
         return -1;
     if (is_str && takes == TAKES_BYTES)

@@ -18,3 +18,9 @@ class Column(Protocol):
     """What lends texts, or bytes, by the C data interface of Arrow."""
 
     def __arrow_c_array__(self, requested_schema: Any = None) -> Tuple[Any, Any]: ...
+
+
+class Chunks(Protocol):
+    """What lends chunks of texts, or of bytes, by the C stream interface of Arrow."""
+
+    def __arrow_c_stream__(self, requested_schema: Any = None) -> Any: ...

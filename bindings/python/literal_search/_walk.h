@@ -215,26 +215,51 @@ static int find_earliest(const Prepared *search, const Text *text, size_t start,
 
 /* ---- Pages of matches ---- */
 
-/* Begins a walk through text[start:end]. */
-static int walk_begin(Walk *walk, Prepared *search, bool for_all, PyObject *const asked[3]) {
-    if (hold(&walk->text, search->takes, asked[0]))
-        return -1;
-    if ((for_all && prepare_for_all(search)) ||
-        bounds(&walk->text, asked[1], asked[2], &walk->place, &walk->end) ||
-        (search->whole_words && begin_sides(&walk->text, walk->place))) {
-        give_back(&walk->text);
-        return -1;
-    }
+static void walk_end(Walk *walk) {
+    if (walk->matches != walk->first)
+        PyMem_Free(walk->matches);
+    walk->matches = walk->first;
+    walk->is_done = true;
+    walk->written = walk->given = 0;
+    give_back(&walk->text);
+    Py_CLEAR(walk->search);
+}
+
+/* Makes a walk that has no text yet. */
+static void walk_for(Walk *walk, Prepared *search, bool for_all) {
     walk->search = (Prepared *)Py_NewRef((PyObject *)search);
     walk->for_all = for_all;
     walk->is_part = walk->more = false;
     walk->before = 0;
-    walk->len = first_len(search);
-    walk->start = walk->at = walk->place.byte;
-    walk->is_done = walk->at == walk->end;
     walk->matches = walk->first;
     walk->room = walk->wanted = FIRST_PAGE;
+}
+
+/* Begins at a place of the text that is held, up to a byte of it. */
+static int walk_from(Walk *walk, Place place, size_t end) {
+    if (walk->search->whole_words && begin_sides(&walk->text, place))
+        return -1;
+    walk->place = place;
+    walk->end = end;
+    walk->len = first_len(walk->search);
+    walk->start = walk->at = place.byte;
+    walk->is_done = walk->at == end;
     walk->written = walk->given = 0;
+    return 0;
+}
+
+/* Begins a walk through text[start:end]. */
+static int walk_begin(Walk *walk, Prepared *search, bool for_all, PyObject *const asked[3]) {
+    Place place;
+    size_t end;
+    if (hold(&walk->text, search->takes, asked[0]))
+        return -1;
+    walk_for(walk, search, for_all);
+    if ((for_all && prepare_for_all(search)) || bounds(&walk->text, asked[1], asked[2], &place, &end) ||
+        walk_from(walk, place, end)) {
+        walk_end(walk);
+        return -1;
+    }
     return 0;
 }
 
@@ -245,16 +270,6 @@ static void walk_in_part(Walk *walk, size_t before, bool more) {
     walk->start = 0;
     walk->before = before;
     walk->more = more;
-}
-
-static void walk_end(Walk *walk) {
-    if (walk->matches != walk->first)
-        PyMem_Free(walk->matches);
-    walk->matches = walk->first;
-    walk->is_done = true;
-    walk->written = walk->given = 0;
-    give_back(&walk->text);
-    Py_CLEAR(walk->search);
 }
 
 /* Makes the room for matches that is wanted. None of them is kept. */
@@ -324,22 +339,29 @@ static int words_of_piece(Walk *walk) {
     return status == LITERAL_OK ? take_words(walk, &page, cut, piece_end) : refuse(status);
 }
 
-/* Finds the matches of the next piece that stand whatever follows it, as many as there is room for, in one call. */
+/* Finds the matches of the next piece that stand whatever follows it, as many as there is room for, in one call. If
+ * nothing follows, the call for a whole text takes less time. */
 static int matches_of_piece(Walk *walk) {
     size_t words_len, piece_end = end_of_piece(walk->search, walk->at, walk->end);
     const uint32_t *words = array_of(walk->search, &words_len);
     bool more = walk->more || piece_end < walk->end;
     literal_page page;
+    int32_t status;
     PyThreadState *state = let_others_run(piece_end - walk->at);
-    int32_t status = literal_find_all_so_far_in(words, words_len, walk->text.bytes, piece_end, walk->at, more,
-                                                walk->matches, walk->room, &page);
+    if (more)
+        status = literal_find_all_so_far_in(words, words_len, walk->text.bytes, piece_end, walk->at, true,
+                                            walk->matches, walk->room, &page);
+    else
+        status = literal_find_all_in(words, words_len, walk->text.bytes, piece_end, walk->at, piece_end, walk->matches,
+                                     walk->room, &page);
     come_back(state);
     if (status != LITERAL_OK)
         return refuse(status);
-    if (!are_in_order(walk->search, walk->matches, page.written, walk->at, page.next) ||
-        (page.is_last && !may_keep(walk->search, piece_end - page.next)))
+    if (page.next > piece_end || !are_in_order(walk->search, walk->matches, page.written, walk->at, page.next) ||
+        (more && page.is_last && !may_keep(walk->search, piece_end - page.next)))
         return refuse(LITERAL_DAMAGED);
-    take_matches(walk, page.written, page.next, page.is_last && piece_end == walk->end);
+    take_matches(walk, page.written, page.is_last && !more ? piece_end : page.next,
+                 page.is_last && piece_end == walk->end);
     return 0;
 }
 
@@ -490,15 +512,33 @@ static PyObject *match_at(const Prepared *search, const Text *text, Place *place
                      search->leads_on || leads_on(text));
 }
 
-/* The same of a part of a text. It is not held, so the match has a copy of what was matched. */
+/* The pattern of what was found, if it has the same bytes, and is a str or bytes of no subclass; or NULL. Of a folded
+ * text this is not known, since the pieces are folded. */
+static PyObject *pattern_as_matched(const Walk *walk, const literal_match *found) {
+    const Pieces *pieces = &walk->search->pieces;
+    PyObject *pattern = PyTuple_GET_ITEM(walk->search->patterns, (Py_ssize_t)found->pattern);
+    size_t start = found->pattern > 0 ? pieces->ends[found->pattern - 1] : 0, len = found->end - found->start;
+    const uint8_t *bytes = pieces->bytes + start, *matched = walk->text.bytes + found->start;
+    bool is_same = walk->search->takes != TAKES_FOLDED && pieces->ends[found->pattern] - start == len &&
+                   (PyUnicode_CheckExact(pattern) || PyBytes_CheckExact(pattern)) && bytes[0] == matched[0] &&
+                   (len == 1 || memcmp(bytes, matched, len) == 0);
+    return is_same ? pattern : NULL;
+}
+
+/* The same of a part of a text. It is not held, so the match has what was matched: the pattern, or a copy. */
 static PyObject *match_of_part(Walk *walk, const literal_match *found) {
-    PyObject *of = walk->search->values ? walk->search->values : walk->search->patterns;
+    const Prepared *search = walk->search;
+    PyObject *of = search->values ? search->values : search->patterns, *group = pattern_as_matched(walk, found);
     size_t shown[SHOWN];
     show(&walk->text, &walk->place, found, shown);
-    PyObject *group = part_of(&walk->text, (Place){found->start, shown[START]}, (Place){found->end, shown[END]});
+    if (group)
+        Py_INCREF(group);
+    else
+        group = part_of(&walk->text, (Place){found->start, shown[START]}, (Place){found->end, shown[END]});
     shown[START] += walk->before;
     shown[END] += walk->before;
-    PyObject *match = group ? match_of_its_own(shown, group, PyTuple_GET_ITEM(of, (Py_ssize_t)found->pattern)) : NULL;
+    PyObject *value = PyTuple_GET_ITEM(of, (Py_ssize_t)found->pattern);
+    PyObject *match = group ? match_of_its_own(shown, group, value, search->leads_on) : NULL;
     Py_XDECREF(group);
     return match;
 }

@@ -1,4 +1,4 @@
-"""Columns by Arrow's C data interface, which a class here lends as any library of Arrow does."""
+"""Columns by Arrow's C data interface."""
 import ctypes
 import random
 import struct
@@ -6,60 +6,8 @@ import unittest
 
 from literal_search import Search
 
+from lent import DESTROYED, Column
 from shared import tearDownModule
-
-RELEASE = ctypes.CFUNCTYPE(None, ctypes.c_void_p)
-DESTROY, DESTROYED = ctypes.PYFUNCTYPE(None, ctypes.c_void_p), []
-NEW_CAPSULE = ctypes.pythonapi.PyCapsule_New
-NEW_CAPSULE.argtypes, NEW_CAPSULE.restype = (ctypes.c_void_p, ctypes.c_char_p, DESTROY), ctypes.py_object
-
-
-class Schema(ctypes.Structure):
-    _fields_ = [("format", ctypes.c_char_p), ("name", ctypes.c_char_p), ("metadata", ctypes.c_char_p),
-                ("flags", ctypes.c_int64), ("n_children", ctypes.c_int64), ("children", ctypes.c_void_p),
-                ("dictionary", ctypes.c_void_p), ("release", ctypes.c_void_p), ("private_data", ctypes.c_void_p)]
-
-
-class Array(ctypes.Structure):
-    _fields_ = [("length", ctypes.c_int64), ("null_count", ctypes.c_int64), ("offset", ctypes.c_int64),
-                ("n_buffers", ctypes.c_int64), ("n_children", ctypes.c_int64),
-                ("buffers", ctypes.POINTER(ctypes.c_void_p)), ("children", ctypes.c_void_p),
-                ("dictionary", ctypes.c_void_p), ("release", ctypes.c_void_p), ("private_data", ctypes.c_void_p)]
-
-
-@RELEASE
-def nothing(_):
-    """The memory belongs to the column, which outlives its capsules here."""
-
-
-@DESTROY
-def destroyed(_):
-    """Called with each capsule that is gone."""
-    DESTROYED.append(None)
-
-
-class Column:
-    """Texts of str or bytes, or None where one is missing, in buffers as Arrow has them, from a later text on."""
-
-    def __init__(self, texts, form, skipped=("", None), names=(b"arrow_schema", b"arrow_array")):
-        self.names, cells = names, [*skipped, *texts]
-        # (bytes of a missing text may be there, and are not looked at)
-        encoded = [b"a missing text" if it is None else it.encode() if isinstance(it, str) else it for it in cells]
-        ends = [sum(map(len, encoded[:i])) for i in range(len(cells) + 1)]
-        bits = sum((it is not None) << i for i, it in enumerate(cells))
-        kind = "q" if form in b"UZ" else "i"
-        self.parts = [bits.to_bytes(len(cells) // 8 + 1, "little"), struct.pack(f"={len(ends)}{kind}", *ends),
-                      b"".join(encoded)]
-        self.held = [ctypes.create_string_buffer(it, len(it) or 1) for it in self.parts]
-        self.buffers = (ctypes.c_void_p * 3)(*[ctypes.addressof(it) for it in self.held])
-        release = ctypes.cast(nothing, ctypes.c_void_p).value
-        self.schema = Schema(format=form, release=release)
-        self.array = Array(length=len(texts), null_count=-1, offset=len(skipped), n_buffers=3, release=release,
-                           buffers=self.buffers)
-
-    def __arrow_c_array__(self, requested_schema=None):
-        structs = zip((self.schema, self.array), self.names)
-        return tuple(NEW_CAPSULE(ctypes.addressof(it), name, destroyed) for it, name in structs)
 
 
 class Columns(unittest.TestCase):
@@ -67,8 +15,8 @@ class Columns(unittest.TestCase):
         """That the calls answer of columns as they do of a list."""
         for form in forms:
             for skipped in (), ("", None), ["before"] * 9:
-                column = Column(texts, form, [it and it.encode() if form in b"zZ" else it for it in skipped])
-                for call in searcher.find_each, searcher.count_each, searcher.findall_each:
+                column = Column(texts, form, [it and it.encode() if form[-1:] in b"zZ" else it for it in skipped])
+                for call in searcher.find_each, searcher.count_each, searcher.findall_each, searcher.find_columns_each:
                     wanted = call(list(texts), skip_missing=skips)
                     self.assertEqual(call(column, skip_missing=skips), wanted, (call, texts, form))
 
@@ -77,23 +25,23 @@ class Columns(unittest.TestCase):
         for ignore_case in False, True, "ascii":
             for whole_words in False, True:
                 searcher = Search(["ERROR", "WARN"], ignore_case=ignore_case, whole_words=whole_words)
-                self.check(searcher, texts, (b"u", b"U"))
+                self.check(searcher, texts, (b"u", b"U", b"vu"))
         searcher = Search([b"ERROR", b"WARN"])
-        self.check(searcher, [it.encode() for it in texts], (b"z", b"Z"))
-        self.check(searcher, [b"\xff\xfeWARN", b"\x00"], (b"z", b"Z"))
-        self.check(searcher, [], (b"z", b"Z"))
+        self.check(searcher, [it.encode() for it in texts], (b"z", b"Z", b"vz"))
+        self.check(searcher, [b"\xff\xfeWARN", b"\x00"], (b"z", b"Z", b"vz"))
+        self.check(searcher, [], (b"z", b"Z", b"vz"))
         found = searcher.find_each(Column([b"a WARN"], b"z"))[0]
         self.assertEqual((found.group(), found.value), (b"WARN", b"WARN"))
 
     def test_folded(self):
         searcher = Search(["straẞe", "пример"], ignore_case=True)
         texts = ["Это ПРИМЕР и пример", "", "ASCII", "ПРИМЕ", "Р", "é" * 3000 + "Пример"]
-        self.check(searcher, texts, (b"u", b"U"))
+        self.check(searcher, texts, (b"u", b"U", b"vu"))
         self.assertEqual(searcher.find_each(Column(texts, b"u"))[0].group(), "ПРИМЕР")
 
     def test_long_texts(self):
         text = "x" * (1 << 20) + "ab"
-        self.check(Search(["ba", "a"]), [text, "b", "ä" + text], (b"u", b"U"))
+        self.check(Search(["ba", "a"]), [text, "b", "ä" + text], (b"u", b"U", b"vu"))
         self.check(Search(["ba", "a"], whole_words=True), [text + " ba a"], (b"u",))
 
     def test_what_goes_to_the_call_for_one_text(self):
@@ -110,13 +58,21 @@ class Columns(unittest.TestCase):
             words = ["".join(chance.choices("abä", k=chance.randint(1, 3))) for _ in range(chance.randint(0, 4))]
             texts = ["".join(chance.choices("abäAÄ ", k=chance.randint(0, 9))) for _ in range(chance.randint(0, 20))]
             searcher = Search(words, ignore_case=chance.random() < 0.5, whole_words=chance.random() < 0.3)
-            self.check(searcher, texts, (b"u", b"U"))
-            self.check(searcher, [it if chance.random() < 0.5 else None for it in texts], (b"u", b"U"), skips=True)
+            self.check(searcher, texts, (b"u", b"U", b"vu"))
+            cells = [it if chance.random() < 0.5 else None for it in texts]
+            self.check(searcher, cells, (b"u", b"U", b"vu"), skips=True)
+
+    def test_random_long_texts(self):
+        """Around the length from which a view names a buffer."""
+        chance = random.Random(4)
+        for _ in range(20):
+            texts = ["".join(chance.choices("abc", k=chance.randint(9, 16))) for _ in range(chance.randint(0, 20))]
+            self.check(Search(["a", "bc"]), texts, (b"u", b"vu"))
 
     def test_missing(self):
         texts = ["a", None, "b", None] * 5
         searcher = Search(["a"])
-        self.check(searcher, texts, (b"u", b"U"), skips=True)
+        self.check(searcher, texts, (b"u", b"U", b"vu"), skips=True)
         for call in searcher.find_each, searcher.count_each, searcher.findall_each:
             with self.assertRaisesRegex(TypeError, "a text is a str or lends its bytes, and NoneType does neither"):
                 call(Column(texts, b"u"))
@@ -136,7 +92,7 @@ class Columns(unittest.TestCase):
                 getattr(searcher, call)(Column([b"a"], b"z"))
             with self.assertRaisesRegex(TypeError, "the patterns are bytes, and the text is str"):
                 getattr(of_bytes, call)(Column(["a"], b"U"))
-            for form in b"i", b"vu", b"+l", b"":
+            for form in b"i", b"v", b"vU", b"vuz", b"+l", b"":
                 with self.assertRaisesRegex(TypeError, "this one Arrow's format"):
                     getattr(searcher, call)(Column(["a"], form))
             with self.assertRaisesRegex(ValueError, "PyCapsule_GetPointer called with incorrect name"):

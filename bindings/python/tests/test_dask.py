@@ -1,4 +1,4 @@
-"""The example for Dask, on a cluster of two worker processes, where Python has Dask's package `distributed`."""
+"""The examples for Dask, on a cluster of two worker processes, where Python has Dask's package `distributed`."""
 import subprocess
 import sys
 import tempfile
@@ -8,15 +8,20 @@ from pathlib import Path
 
 from shared import tearDownModule
 
-EXAMPLE = Path(__file__).parent.parent / "examples/dask_search.py"
+EXAMPLES = Path(__file__).parent.parent / "examples"
 LIMIT = 120  # seconds
 
 
-@unittest.skipUnless(find_spec("distributed"), "Dask is not installed")
-class Cluster(unittest.TestCase):
+class Example(unittest.TestCase):
     def run_example(self, *words):
-        ran = subprocess.run([sys.executable, EXAMPLE, "-w", "2", *words], capture_output=True, text=True, timeout=LIMIT)
+        given = [sys.executable, EXAMPLES / self.name, "-w", "2", *words]
+        ran = subprocess.run(given, capture_output=True, text=True, timeout=LIMIT)
         return ran.returncode, ran.stdout, ran.stderr
+
+
+@unittest.skipUnless(find_spec("distributed"), "Dask is not installed")
+class Files(Example):
+    name = "dask_search.py"
 
     def test_counts_are_summed(self):
         with tempfile.TemporaryDirectory() as folder:
@@ -31,6 +36,30 @@ class Cluster(unittest.TestCase):
             code, counts, why = self.run_example(f"{folder}/none", "fig")
         self.assertEqual((code, counts), (1, ""), why)
         self.assertIn("FileNotFoundError", why)
+
+
+@unittest.skipUnless(find_spec("distributed") and find_spec("pandas"), "Dask or pandas is not installed")
+class Columns(Example):
+    name = "dask_columns.py"
+
+    def test_matches_of_all_files(self):
+        with tempfile.TemporaryDirectory() as folder:
+            for i, rows in enumerate(("1,é maple", "2,\n3,NA\n4", '5,fog\n6,"a figs,\nfig"', "7,55", "")):
+                Path(folder, f"{i}.csv").write_text(f"id,note\n{rows}\n", "utf-8")
+            code, table, why = self.run_example(folder, "note", "fig", "maple", "figs", "NA", "5")
+        rows = ["0.csv,0,maple,2,7", "1.csv,1,NA,0,2", "2.csv,1,figs,2,6", "2.csv,1,fig,8,11", "3.csv,0,5,0,1",
+                "3.csv,0,5,1,2"]
+        wanted = ["file,row,word,start,end", *(f"{folder}/{it}" for it in rows)]
+        self.assertEqual((code, table.splitlines()), (0, wanted), why)
+
+    def test_nothing_to_find(self):
+        with tempfile.TemporaryDirectory() as folder:
+            Path(folder, "a.csv").write_text("id,note\n1,maple\n", "utf-8")
+            self.assertEqual(self.run_example(folder, "note", "fig")[:2], (1, "file,row,word,start,end\n"))
+            for words, wanted in (([folder, "text"], "ValueError"), ([f"{folder}/none", "note"], "no files")):
+                code, table, why = self.run_example(*words, "fig")
+                self.assertEqual((code, table), (1, ""), why)
+                self.assertIn(wanted, why)
 
 
 @unittest.skipUnless(find_spec("dask"), "Dask is not installed")

@@ -247,6 +247,21 @@ class Iterators(unittest.TestCase):
             gc.collect()
             self.assertEqual([it() for it in gone], [None] * len(gone))
 
+    def test_cycles_of_streams(self):
+        """Through a value, and only then the collector looks at a match."""
+        for kind, given, file in (Text, "a", StringIO), (Block, b"a", BytesIO):
+            for call in "finditer_stream", "finditer_overlapping_stream":
+                plain, holds = Search([given]), kind(given)
+                (match,) = getattr(plain, call)(file(given))
+                held = [it for it in gc.get_referents(match) if it is not type(match)]
+                self.assertEqual([gc.is_tracked(it) for it in (match, *held)], [False, False])
+                (holds.holds,) = getattr(Search({given: holds}), call)(file(given))
+                self.assertIs(holds.holds.value, holds)
+                gone = weakref.ref(holds)
+                del holds
+                gc.collect()
+                self.assertIsNone(gone())
+
     def test_asked_while_it_is_at_work(self):
         """By the handler of a signal that it sees."""
         matches = Search([b"\0"]).finditer(bytes(100000))

@@ -9,6 +9,7 @@ from pathlib import Path
 
 from literal_search import Search
 
+from lent import Column
 from shared import tearDownModule
 
 try:
@@ -20,7 +21,18 @@ except ImportError:
 CAN_REFUSE = set_nomemory and sys.version_info[:2] == (3, 11)
 
 WORDS = [b"apple", b"maple", b"Snapple"]
-REQUESTS, SWEEPS, FEW = 60, 12, 8
+REQUESTS = 60
+
+
+class Lent:
+    """A column whose capsules are there already: ctypes raises another error if it is refused memory."""
+
+    def __init__(self, texts):
+        self.column = Column(texts, b"vu")
+        self.capsules = self.column.__arrow_c_array__()
+
+    def __arrow_c_array__(self, requested_schema=None):
+        return self.capsules
 
 
 class Name(str):
@@ -58,10 +70,11 @@ def refused(call, request):
 class EachRequest(unittest.TestCase):
     """By CPython's own means for tests."""
 
-    def check(self, call, held):
-        """That every answer is right or a MemoryError, and that nothing stays held."""
+    def check(self, call, held, sweeps=10, few=8):
+        """That every answer is right or a MemoryError, and that nothing stays held. Python keeps a few objects, or for
+        some calls some hundreds, for later ones."""
         wanted, counts = repr(call()), [sys.getrefcount(it) for it in held]
-        for sweep in range(SWEEPS):
+        for sweep in range(sweeps + 2):
             answers = [refused(call, request) for request in range(REQUESTS)]
             self.assertEqual({repr(it) for it in answers if it is not None} - {wanted}, set())
             del answers
@@ -69,7 +82,7 @@ class EachRequest(unittest.TestCase):
                 gc.collect()
                 blocks = sys.getallocatedblocks()
         gc.collect()
-        self.assertLess(sys.getallocatedblocks(), blocks + FEW)
+        self.assertLess(sys.getallocatedblocks(), blocks + few)
         self.assertEqual([sys.getrefcount(it) for it in held], counts)
 
     def test_texts(self):
@@ -79,6 +92,14 @@ class EachRequest(unittest.TestCase):
                 searcher = Search(words, **settings)
                 for call in calls_of(searcher, text, text[:1]):
                     self.check(lambda: call(text), [searcher, text])
+
+    def test_columns(self):
+        texts, many = ["a", "aé", None, "É a" * 9, "x" * 9000 + "é a"], {"sweeps": 500, "few": 450}
+        for words, settings in ((["a"], {}), (["é"], {"ignore_case": True}), (["a"], {"whole_words": True})):
+            searcher, lent = Search(words, **settings), Lent(["a", None, "É a" * 9])
+            held = [searcher, texts[1], texts[3], texts[4]]
+            self.check(lambda: searcher._columns_each(texts, False, True, None), held, **many)
+            self.check(lambda: searcher._columns_each(lent, True, True, None), [searcher, lent], **many)
 
     def test_characters_that_are_new(self):
         """In each text stands a letter that stood in none before."""
@@ -117,9 +138,12 @@ class Refused(unittest.TestCase):
         """By an allocator before the C library's, which refuses while the environment says so."""
         process, searcher, text = ctypes.CDLL(None), Search(WORDS), b"apple" * 10000
         of_words, folds, accented = Search(["a"], whole_words=True), Search(["É"], ignore_case=True), "é a" * 10000
+        column = Column([accented], b"u")
         self.assertEqual(of_words.count(accented), 1)  # (only the last is no part of `aé`)
         for call in (lambda: Search([b"%d" % it for it in range(2000)]), lambda: searcher.findall(text),
-                     lambda: of_words.find(accented), lambda: of_words.findall(accented), lambda: folds.find(accented)):
+                     lambda: of_words.find(accented), lambda: of_words.findall(accented), lambda: folds.find(accented),
+                     lambda: folds.find_columns_each([accented]), lambda: folds.find_columns_each(column),
+                     lambda: of_words.find_columns_each(column)):
             with self.assertRaises(MemoryError):
                 process.setenv(b"REFUSED_REQUEST", b"0", 1)
                 try:

@@ -205,7 +205,8 @@ class Matches(unittest.TestCase):
 
     def test_strings(self):
         for text in ("xÄpple, äPPLE🐍apple", "x Apple, apple", "äpple" * 5000):
-            for searcher in (Search(["äpple", "apple"]), Search([Loud("äpple"), "aPPle"], ignore_case=True)):
+            for searcher in (Search(["äpple", "apple"]), Search([Loud("äpple"), "aPPle"], ignore_case=True),
+                             Search([Loud("äpple"), Loud("apple")])):
                 found = searcher.findall_strings(text, 1, -1)
                 self.assertEqual(found, [it.group() for it in searcher.findall(text, 1, -1)])
                 self.assertEqual({type(it) for it in found} - {str}, set())

@@ -30,6 +30,7 @@ number: int = of_bytes.count(bytearray(b"text")) + of_str.count_overlapping("tex
 strings: List[str] = of_str.findall_strings("text", 1)
 byte_strings: List[bytes] = of_bytes.findall_strings(array("B"))
 starts: "array[int]" = of_str.find_columns("text", end=2)[1]
+rows: "array[int]" = of_bytes.find_columns_each([b"text", None], skip_missing=True)[0]
 parts: List[str] = of_str.split("text")
 text: str = of_str.sub(lambda match: match.group() + str(match.start), "text")
 bytes_and_number: Tuple[bytes, int] = of_bytes.subn([b"x", b"y"], b"text", count=1)
@@ -65,6 +66,7 @@ of_bytes.finditer_stream(StringIO("text"))  # type: ignore
 of_str.sub_stream(StringIO("text"), StringIO(), b"x")  # type: ignore
 of_bytes.find_each(["text"])  # type: ignore
 of_str.count_each([b"text"])  # type: ignore
+of_str.find_columns_each([b"text"])  # type: ignore
 Search([1])  # type: ignore
 Search(b"ab")  # type: ignore
 Search(["a"], 0)  # type: ignore

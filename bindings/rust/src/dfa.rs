@@ -1,8 +1,12 @@
 //! The name of the original's DFA.
-use crate::automaton::{automaton, Automaton, Sealed};
+use crate::automaton::{automaton, Automaton, Prefilter, Sealed};
 use crate::{AhoCorasick, AhoCorasickBuilder, BuildError, MatchKind, StartKind};
 
 automaton!(
-    DFA, "A searcher, whose searches are those of [`Automaton`].", StartKind::Unanchored,
-    match_kind: MatchKind, ascii_case_insensitive: bool, start_kind: StartKind, prefilter: bool, byte_classes: bool
+    DFA, "dfa", StartKind::Unanchored,
+    match_kind: MatchKind = "aho_corasick::MatchKind::LeftmostFirst",
+    ascii_case_insensitive: bool = "true",
+    start_kind: StartKind = "aho_corasick::StartKind::Both",
+    prefilter: bool = "false",
+    byte_classes: bool = "false"
 );

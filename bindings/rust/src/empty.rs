@@ -19,7 +19,7 @@ pub struct Empty {
 impl Empty {
     /// Splits a list, if it has empty patterns.
     pub fn of(pieces: &Pieces) -> Result<Option<Empty>, Cause> {
-        if pieces.shortest > 0 || pieces.len() == 0 {
+        if pieces.shortest > 0 {
             return Ok(None);
         }
         let (mut numbers, mut others) = (with_room(pieces.len())?, with_room(pieces.len())?);

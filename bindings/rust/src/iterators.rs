@@ -16,6 +16,16 @@ const SINGLE: usize = 2;
 const GROWTH: usize = 8;
 
 /// All matches that do not overlap, of [`AhoCorasick::find_iter`](crate::AhoCorasick::find_iter).
+///
+/// ```
+/// use aho_corasick::{AhoCorasick, FindIter};
+///
+/// let searcher = AhoCorasick::new(["cat", "dog"])?;
+/// let mut matches: FindIter<'_, '_> = searcher.find_iter("cat, dog");
+/// assert_eq!(matches.next().map(|it| it.range()), Some(0..3));
+/// assert_eq!(matches.count(), 1);
+/// # Ok::<(), aho_corasick::BuildError>(())
+/// ```
 #[derive(Clone, Debug)]
 pub struct FindIter<'a, 'h>(Way<'a, 'h>);
 

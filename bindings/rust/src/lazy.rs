@@ -1,6 +1,7 @@
 //! A value that the first call for it makes.
 use alloc::boxed::Box;
 use core::marker::PhantomData;
+use core::mem::size_of;
 use core::ptr;
 use core::sync::atomic::{AtomicPtr, Ordering};
 #[cfg(feature = "std")]
@@ -28,6 +29,13 @@ impl<T: Send + Sync> Lazy<T> {
         }
     }
 
+    /// A value that is made.
+    pub fn of(value: T) -> Lazy<T> {
+        let lazy = Lazy::new();
+        lazy.keep(value);
+        lazy
+    }
+
     /// The value, if it was made.
     #[inline]
     pub fn get(&self) -> Option<&T> {
@@ -44,6 +52,11 @@ impl<T: Send + Sync> Lazy<T> {
             Some(made) => Ok(made),
             None => self.make(make),
         }
+    }
+
+    /// How many bytes the value takes in memory, if it was made, with those that a function tells of it.
+    pub fn memory_usage(&self, of: impl FnOnce(&T) -> usize) -> usize {
+        self.get().map_or(0, |made| size_of::<T>() + of(made))
     }
 
     #[cold]

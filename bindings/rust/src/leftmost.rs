@@ -3,8 +3,8 @@ use crate::declared::{LEFTMOST_FIRST, LEFTMOST_LONGEST};
 use crate::error::{BuildError, Cause};
 use crate::library::{Prepared, Reached};
 use crate::pieces::{copied, Pieces};
-use crate::sorted::{keep_matching, sorted};
-use crate::standard::likely_late;
+use crate::sorted::{count_prefixes, keep_matching, sorted};
+use crate::standard::{likely_late, LONGEST_KNOWN};
 use crate::{Match, MatchKind, PatternID, Span};
 use alloc::vec::Vec;
 
@@ -39,27 +39,36 @@ impl Leftmost {
             MatchKind::LeftmostFirst => LEFTMOST_FIRST,
             MatchKind::LeftmostLongest => LEFTMOST_LONGEST,
         };
-        let mut numbers = pieces.folded(ignore_case, |pieces| {
+        let (mut numbers, prefixes) = pieces.folded(ignore_case, |pieces| {
             let mut numbers = sorted(pieces)?;
-            keep_matching(kind, pieces, &mut numbers)?;
-            Ok(numbers)
+            keep_matching(kind, false, pieces, &mut numbers)?;
+            let prefixes = count_prefixes(pieces, &numbers);
+            Ok((numbers, prefixes))
         })?;
         numbers.sort_unstable();
-        let mut leftmost = Leftmost::of(number, ignore_case, pieces, numbers)?;
+        let mut leftmost = Leftmost::of(number, ignore_case, pieces, numbers, prefixes)?;
         leftmost.reads_on = leftmost.longest > LONG && !leftmost.are_late(ignore_case, pieces)?;
         Ok(leftmost)
     }
 
-    /// The search for the leftmost matches of the late patterns, which are the standard ones. The array tells whether
-    /// the likely ones are late.
+    /// The search for the leftmost matches of the late patterns, which are the standard ones. With a long pattern the
+    /// array tells whether the likely ones are late.
     fn standard(ignore_case: bool, pieces: &Pieces) -> Result<Leftmost, BuildError> {
-        let mut numbers = pieces.folded(ignore_case, likely_late)?;
-        let (likely, count) = (Leftmost::of(LEFTMOST_FIRST, ignore_case, pieces, copied(&numbers)?)?, numbers.len());
-        numbers.retain(|it| likely.is_late(pieces.get(*it)));
-        if numbers.len() == count {
+        let (numbers, prefixes) = pieces.folded(ignore_case, |pieces| {
+            let numbers = likely_late(pieces)?;
+            let prefixes = count_prefixes(pieces, &numbers);
+            Ok((numbers, prefixes))
+        })?;
+        if pieces.longest <= LONGEST_KNOWN {
+            return Leftmost::of(LEFTMOST_FIRST, ignore_case, pieces, numbers, prefixes);
+        }
+        let likely = Leftmost::of(LEFTMOST_FIRST, ignore_case, pieces, copied(&numbers)?, prefixes)?;
+        let (mut late, count) = (numbers, likely.numbers.len());
+        late.retain(|it| likely.is_late(pieces.get(*it)));
+        if late.len() == if count > 0 { count } else { pieces.len() } {
             return Ok(likely);
         }
-        Leftmost::of(LEFTMOST_FIRST, ignore_case, pieces, numbers)
+        Leftmost::of(LEFTMOST_FIRST, ignore_case, pieces, late, prefixes)
     }
 
     /// The search for standard matches, where this one is for those of a leftmost kind; or none, if these are the same.
@@ -77,14 +86,20 @@ impl Leftmost {
         Ok(is_same && likely.iter().all(|it| self.is_late(pieces.get(*it))))
     }
 
-    /// The search for some of the patterns.
-    fn of(kind: u32, ignore_case: bool, pieces: &Pieces, numbers: Vec<u32>) -> Result<Leftmost, BuildError> {
+    /// The search for some of the patterns, which have so many different prefixes.
+    fn of(
+        kind: u32,
+        ignore_case: bool,
+        pieces: &Pieces,
+        numbers: Vec<u32>,
+        prefixes: usize,
+    ) -> Result<Leftmost, BuildError> {
         if numbers.len() == pieces.len() {
-            let prepared = Prepared::leftmost(kind, ignore_case, pieces)?;
+            let prepared = Prepared::leftmost(kind, ignore_case, pieces, prefixes)?;
             return Ok(Leftmost { prepared, numbers: Vec::new(), longest: pieces.longest, reads_on: false });
         }
         let some = pieces.of(&numbers)?;
-        let prepared = Prepared::leftmost(kind, ignore_case, &some)?;
+        let prepared = Prepared::leftmost(kind, ignore_case, &some, prefixes)?;
         Ok(Leftmost { prepared, numbers, longest: some.longest, reads_on: false })
     }
 

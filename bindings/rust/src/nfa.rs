@@ -2,22 +2,29 @@
 
 pub mod contiguous {
     //! The name of the NFA in one array.
-    use crate::automaton::{automaton, Automaton, Sealed};
+    use crate::automaton::{automaton, Automaton, Prefilter, Sealed};
     use crate::{AhoCorasick, AhoCorasickBuilder, BuildError, MatchKind, StartKind};
 
     automaton!(
-        NFA, "A searcher, whose searches are those of [`Automaton`].", StartKind::Both,
-        match_kind: MatchKind, ascii_case_insensitive: bool, prefilter: bool, dense_depth: usize, byte_classes: bool
+        NFA, "nfa::contiguous", StartKind::Both,
+        match_kind: MatchKind = "aho_corasick::MatchKind::LeftmostFirst",
+        ascii_case_insensitive: bool = "true",
+        prefilter: bool = "false",
+        dense_depth: usize = "3",
+        byte_classes: bool = "false"
     );
 }
 
 pub mod noncontiguous {
     //! The name of the NFA with lists of transitions.
-    use crate::automaton::{automaton, Automaton, Sealed};
+    use crate::automaton::{automaton, Automaton, Prefilter, Sealed};
     use crate::{AhoCorasick, AhoCorasickBuilder, BuildError, MatchKind, StartKind};
 
     automaton!(
-        NFA, "A searcher, whose searches are those of [`Automaton`].", StartKind::Both,
-        match_kind: MatchKind, ascii_case_insensitive: bool, prefilter: bool, dense_depth: usize
+        NFA, "nfa::noncontiguous", StartKind::Both,
+        match_kind: MatchKind = "aho_corasick::MatchKind::LeftmostFirst",
+        ascii_case_insensitive: bool = "true",
+        prefilter: bool = "false",
+        dense_depth: usize = "3"
     );
 }

@@ -4,6 +4,7 @@ use crate::empty::{Empty, EmptyOccurrences};
 use crate::leftmost::Leftmost;
 use crate::library::{Prepared, Reached, FEW};
 use crate::pieces::Pieces;
+use crate::states::{States, Steps};
 use crate::trie::{Beginning, Trie};
 use crate::{Input, Match, PatternID, Span};
 use alloc::vec::Vec;
@@ -26,7 +27,7 @@ const GAP: usize = 4096;
 
 /// Where every occurrence is searched for: an array for that, its patterns, and the length of the longest one.
 #[derive(Clone, Copy)]
-pub struct Every<'a> {
+pub(crate) struct Every<'a> {
     pub prepared: &'a Prepared,
     pub pieces: &'a Pieces,
     pub longest: usize,
@@ -36,19 +37,16 @@ pub struct Every<'a> {
     pub first: Option<&'a Leftmost>,
 }
 
-impl Every<'_> {
-    /// The numbers of the empty patterns.
-    pub fn empty_numbers(&self) -> &[u32] {
-        self.empty.map_or(&[], |it| &it.numbers)
-    }
-
-    /// The pattern with a number in the array.
-    pub fn pattern(&self, number: usize) -> PatternID {
-        self.empty.map_or(PatternID::of(number), |it| it.pattern(number))
-    }
-}
-
 /// Every occurrence, of [`AhoCorasick::find_overlapping_iter`](crate::AhoCorasick::find_overlapping_iter).
+///
+/// ```
+/// use aho_corasick::{AhoCorasick, FindOverlappingIter};
+///
+/// let searcher = AhoCorasick::new(["cats", "cat"])?;
+/// let occurrences: FindOverlappingIter<'_, '_> = searcher.find_overlapping_iter("cats");
+/// assert_eq!(occurrences.map(|it| it.end()).collect::<Vec<_>>(), [3, 4]);
+/// # Ok::<(), aho_corasick::BuildError>(())
+/// ```
 #[derive(Clone)]
 pub struct FindOverlappingIter<'a, 'h> {
     every: Every<'a>,
@@ -82,6 +80,21 @@ impl fmt::Debug for FindOverlappingIter<'_, '_> {
 
 /// How far a search for every occurrence has come, of
 /// [`AhoCorasick::find_overlapping`](crate::AhoCorasick::find_overlapping).
+///
+/// ```
+/// use aho_corasick::{automaton::OverlappingState, AhoCorasick};
+///
+/// let (searcher, mut state, mut count) = (AhoCorasick::new(["cats", "cat"])?, OverlappingState::start(), 0);
+/// loop {
+///     searcher.find_overlapping("cats", &mut state);
+///     if state.get_match().is_none() {
+///         break;
+///     }
+///     count += 1;
+/// }
+/// assert_eq!(count, 2);
+/// # Ok::<(), aho_corasick::BuildError>(())
+/// ```
 #[derive(Clone, Debug, Default)]
 pub struct OverlappingState {
     way: Option<Way>,
@@ -93,34 +106,57 @@ enum Way {
     Every(Occurrences),
     /// In an anchored input.
     Beginning(Beginning),
+    /// By a leftmost kind.
+    States(Steps),
 }
 
 impl OverlappingState {
     /// The state of a search that has not begun.
+    ///
+    /// ```
+    /// use aho_corasick::automaton::OverlappingState;
+    ///
+    /// assert_eq!(OverlappingState::start().get_match(), None);
+    /// ```
     pub fn start() -> OverlappingState {
         OverlappingState::default()
     }
 
     /// The occurrence that the last call found, if it found one.
+    ///
+    /// ```
+    /// use aho_corasick::{automaton::OverlappingState, AhoCorasick, Match};
+    ///
+    /// let (searcher, mut state) = (AhoCorasick::new(["cat"])?, OverlappingState::start());
+    /// searcher.find_overlapping("a cat", &mut state);
+    /// assert_eq!(state.get_match(), Some(Match::must(0, 2..5)));
+    /// # Ok::<(), aho_corasick::BuildError>(())
+    /// ```
     pub fn get_match(&self) -> Option<Match> {
         self.found
     }
 
     /// Finds the next occurrence.
     pub(crate) fn step(&mut self, every: Every<'_>, input: &Input<'_>) {
-        let way = self.way.get_or_insert_with(|| Way::Every(Occurrences::new(input)));
-        self.found = match way {
+        self.found = match self.way.get_or_insert_with(|| Way::Every(Occurrences::new(input))) {
             Way::Every(occurrences) => occurrences.next(every, input.haystack()),
-            Way::Beginning(_) => None,
+            _ => None,
         };
     }
 
     /// Finds the next occurrence at the start of an anchored input.
     pub(crate) fn step_anchored(&mut self, trie: &Trie, input: &Input<'_>) {
-        let way = self.way.get_or_insert_with(|| Way::Beginning(Beginning::new(trie, input)));
-        self.found = match way {
-            Way::Every(_) => None,
+        self.found = match self.way.get_or_insert_with(|| Way::Beginning(Beginning::new(trie, input))) {
             Way::Beginning(beginning) => beginning.next(trie, input),
+            _ => None,
+        };
+    }
+
+    /// Finds the next occurrence that a loop over states meets.
+    pub(crate) fn step_states(&mut self, states: &States, pieces: &Pieces, input: &Input<'_>) {
+        self.found = match self.way.get_or_insert_with(|| Way::States(Steps::new(states, input))) {
+            Way::States(steps) => steps.next(states, pieces, input),
+            _ => None,
         };
     }
 }

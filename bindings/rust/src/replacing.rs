@@ -32,7 +32,16 @@ impl AhoCorasick {
     /// # Panics
     ///
     /// If the list does not have one replacement for each pattern.
+    ///
+    /// ```
+    /// use aho_corasick::AhoCorasick;
+    ///
+    /// let searcher = AhoCorasick::new(["cat", "dog"])?;
+    /// assert_eq!(searcher.try_replace_all("dog and cat", &["dog", "cat"]).unwrap(), "cat and dog");
+    /// # Ok::<(), aho_corasick::BuildError>(())
+    /// ```
     pub fn try_replace_all<B: AsRef<str>>(&self, haystack: &str, replace_with: &[B]) -> Result<String, MatchError> {
+        self.check(Anchored::No)?;
         self.assert_one_for_each(replace_with);
         let mut replaced = String::with_capacity(haystack.len());
         self.try_replace_all_with(haystack, &mut replaced, |found, _, to| {
@@ -47,6 +56,14 @@ impl AhoCorasick {
     /// # Panics
     ///
     /// If the list does not have one replacement for each pattern, or the [`StartKind`](crate::StartKind) is `Anchored`.
+    ///
+    /// ```
+    /// use aho_corasick::AhoCorasick;
+    ///
+    /// let searcher = AhoCorasick::new(["cat", "dog"])?;
+    /// assert_eq!(searcher.replace_all_bytes(b"dog and cat", &["dog", "cat"]), b"cat and dog");
+    /// # Ok::<(), aho_corasick::BuildError>(())
+    /// ```
     pub fn replace_all_bytes<B: AsRef<[u8]>>(&self, haystack: &[u8], replace_with: &[B]) -> Vec<u8> {
         done(self.try_replace_all_bytes(haystack, replace_with))
     }
@@ -60,11 +77,20 @@ impl AhoCorasick {
     /// # Panics
     ///
     /// If the list does not have one replacement for each pattern.
+    ///
+    /// ```
+    /// use aho_corasick::AhoCorasick;
+    ///
+    /// let searcher = AhoCorasick::new(["cat", "dog"])?;
+    /// assert_eq!(searcher.try_replace_all_bytes(b"dog", &["dog", "cat"]).unwrap(), b"cat");
+    /// # Ok::<(), aho_corasick::BuildError>(())
+    /// ```
     pub fn try_replace_all_bytes<B: AsRef<[u8]>>(
         &self,
         haystack: &[u8],
         replace_with: &[B],
     ) -> Result<Vec<u8>, MatchError> {
+        self.check(Anchored::No)?;
         self.assert_one_for_each(replace_with);
         let mut replaced = Vec::with_capacity(haystack.len());
         self.try_replace_all_with_bytes(haystack, &mut replaced, |found, _, to| {
@@ -112,6 +138,19 @@ impl AhoCorasick {
     /// # Errors
     ///
     /// Where that panics.
+    ///
+    /// ```
+    /// use aho_corasick::AhoCorasick;
+    ///
+    /// let searcher = AhoCorasick::new(["cat", "dog"])?;
+    /// let mut text = String::new();
+    /// let replaced = searcher.try_replace_all_with("cat, dog", &mut text, |_, _, text| {
+    ///     text.push('-');
+    ///     true
+    /// });
+    /// assert!(replaced.is_ok() && text == "-, -");
+    /// # Ok::<(), aho_corasick::BuildError>(())
+    /// ```
     pub fn try_replace_all_with<F>(
         &self,
         haystack: &str,
@@ -140,6 +179,19 @@ impl AhoCorasick {
     /// # Panics
     ///
     /// If the [`StartKind`](crate::StartKind) is `Anchored`.
+    ///
+    /// ```
+    /// use aho_corasick::AhoCorasick;
+    ///
+    /// let searcher = AhoCorasick::new(["cat", "dog"])?;
+    /// let mut bytes = Vec::new();
+    /// searcher.replace_all_with_bytes(b"cat, dog", &mut bytes, |_, word, bytes| {
+    ///     bytes.push(word[0]);
+    ///     true
+    /// });
+    /// assert_eq!(bytes, b"c, d");
+    /// # Ok::<(), aho_corasick::BuildError>(())
+    /// ```
     pub fn replace_all_with_bytes<F>(&self, haystack: &[u8], dst: &mut Vec<u8>, replace_with: F)
     where
         F: FnMut(&Match, &[u8], &mut Vec<u8>) -> bool,
@@ -152,6 +204,16 @@ impl AhoCorasick {
     /// # Errors
     ///
     /// Where that panics.
+    ///
+    /// ```
+    /// use aho_corasick::AhoCorasick;
+    ///
+    /// let searcher = AhoCorasick::new(["cat", "dog"])?;
+    /// let mut bytes = Vec::new();
+    /// assert!(searcher.try_replace_all_with_bytes(b"cat, dog", &mut bytes, |_, _, _| false).is_ok());
+    /// assert_eq!(bytes, b", dog");
+    /// # Ok::<(), aho_corasick::BuildError>(())
+    /// ```
     pub fn try_replace_all_with_bytes<F>(
         &self,
         haystack: &[u8],

@@ -5,6 +5,7 @@ use crate::leftmost::Leftmost;
 use crate::library::Prepared;
 use crate::occurrences::{Every, FindOverlappingIter, OverlappingState};
 use crate::pieces::Pieces;
+use crate::states::States;
 #[cfg(feature = "std")]
 use crate::stream::Room;
 use crate::trie::Trie;
@@ -24,7 +25,16 @@ const FEW_PATTERNS: usize = 3;
 /// Threads may share it. A clone is the same search, and takes no memory.
 ///
 /// If the searcher does not make a search, the calls for it panic, except for those whose names begin with `try_`: they
-/// return a [`MatchError`]. [`AhoCorasick::is_match`] has no such call; use [`AhoCorasick::try_find`].
+/// return a [`MatchError`]. [`AhoCorasick::is_match`] answers for each input.
+///
+/// ```
+/// use aho_corasick::{AhoCorasick, Match};
+///
+/// let searcher = AhoCorasick::new(["cat", "dog"])?;
+/// let found: Vec<Match> = searcher.find_iter("dog, cat").collect();
+/// assert_eq!(found, [Match::must(1, 0..3), Match::must(0, 5..8)]);
+/// # Ok::<(), aho_corasick::BuildError>(())
+/// ```
 #[derive(Clone)]
 pub struct AhoCorasick {
     parts: Arc<Parts>,
@@ -40,15 +50,17 @@ pub(crate) struct Parts {
     pub leftmost: Leftmost,
     /// The search for earliest matches where the kind is a leftmost one, if `leftmost` does not find them too.
     pub earliest: Lazy<Option<Leftmost>>,
-    /// What makes anchored searches, if the `StartKind` has them. If a pattern is empty, it makes all searches for
-    /// matches that do not overlap.
-    pub trie: Option<Trie>,
+    /// What makes anchored searches. If the `StartKind` has these or a pattern is empty, it is built at once. If a
+    /// pattern is empty, it makes all searches for matches that do not overlap.
+    pub trie: Lazy<Trie>,
     /// The empty patterns, if there are some, and the others.
     pub empty: Option<Empty>,
     /// All patterns.
     pub pieces: Pieces,
     /// The array for every occurrence of the patterns that are not empty.
     pub every: Lazy<Prepared>,
+    /// For loops over states.
+    pub states: Lazy<States>,
 }
 
 /// What makes a search.
@@ -102,16 +114,28 @@ impl AhoCorasick {
         AhoCorasick::builder().build(patterns)
     }
 
-    /// A builder, which sets the kind of match, and whether to ignore ASCII case.
+    /// A builder, which sets the kind of match, and whether to ignore ASCII case. With [`MatchKind::Standard`], the
+    /// default, the first search for every occurrence builds a second array: it takes about as much time as the build,
+    /// and at least about as much memory. [`AhoCorasickBuilder::overlapping`] builds that array at once.
+    ///
+    /// ```
+    /// use aho_corasick::{AhoCorasick, Match, MatchKind};
+    ///
+    /// let mut builder = AhoCorasick::builder();
+    /// let searcher = builder.match_kind(MatchKind::LeftmostFirst).ascii_case_insensitive(true).build(["abc", "ab"])?;
+    /// assert_eq!(searcher.find("xABC"), Some(Match::must(0, 1..4)));
+    /// # Ok::<(), aho_corasick::BuildError>(())
+    /// ```
     pub fn builder() -> AhoCorasickBuilder {
         AhoCorasickBuilder::new()
     }
 
-    /// Whether there is a match. The search stops at the first one.
+    /// Whether there is a match. The search stops at the first one. The [`StartKind`] leaves out no such search: if it
+    /// leaves out anchored ones, the first anchored one builds what they need.
     ///
     /// # Panics
     ///
-    /// Like [`AhoCorasick::find`]: also where the [`StartKind`] leaves out the search.
+    /// If memory for that is refused.
     ///
     /// ```
     /// use aho_corasick::AhoCorasick;
@@ -123,12 +147,11 @@ impl AhoCorasick {
     /// ```
     #[inline]
     pub fn is_match<'h, I: Into<Input<'h>>>(&self, input: I) -> bool {
-        let mut input = input.into();
-        input.set_earliest(false);
-        match done(self.way(&input)) {
-            Way::Leftmost(leftmost) => leftmost.is_match(input.haystack(), input.searched()),
-            Way::Trie(trie) => trie.is_match(&input),
+        let input = input.into();
+        if input.get_anchored().is_anchored() || self.has_empty() {
+            return done(self.trie()).is_match(&input);
         }
+        self.parts.leftmost.is_match(input.haystack(), input.searched())
     }
 
     /// The first match, if there is one.
@@ -208,6 +231,15 @@ impl AhoCorasick {
     /// # Errors
     ///
     /// Where that panics.
+    ///
+    /// ```
+    /// use aho_corasick::{AhoCorasick, Anchored, Input};
+    ///
+    /// let searcher = AhoCorasick::new(["cat"])?;
+    /// assert_eq!(searcher.try_find_iter("cat, cat").map(Iterator::count), Ok(2));
+    /// assert!(searcher.try_find_iter(Input::new("cat").anchored(Anchored::Yes)).is_err());
+    /// # Ok::<(), aho_corasick::BuildError>(())
+    /// ```
     #[inline]
     pub fn try_find_iter<'a, 'h, I: Into<Input<'h>>>(&'a self, input: I) -> Result<FindIter<'a, 'h>, MatchError> {
         let input = input.into();
@@ -225,8 +257,9 @@ impl AhoCorasick {
     ///
     /// It allocates room for at most 256 matches, and none before the first one. If more occur within twice the length
     /// of the longest pattern, it is room for at most 4,096, or for those that end at one offset if these are more. The
-    /// first search for every occurrence builds a second array. It is about as large as the first one, and takes as much
-    /// time. Other threads that need it wait; without the feature `std` each of them builds one, and one is kept.
+    /// first search for every occurrence builds a second array, unless the searcher was built with it
+    /// ([`AhoCorasickBuilder::overlapping`] says what it costs). Other threads that need it wait; without the feature
+    /// `std` each of them builds one, and one is kept.
     ///
     /// # Panics
     ///
@@ -253,6 +286,15 @@ impl AhoCorasick {
     ///
     /// Where that panics. Of several reasons the error names the first of these: the [`StartKind`] leaves out such a
     /// search, the kind of match is not [`MatchKind::Standard`], the input is anchored, the second array can't be built.
+    ///
+    /// ```
+    /// use aho_corasick::{AhoCorasick, MatchKind};
+    ///
+    /// assert_eq!(AhoCorasick::new(["cats", "cat"])?.try_find_overlapping_iter("cats").map(Iterator::count), Ok(2));
+    /// let searcher = AhoCorasick::builder().match_kind(MatchKind::LeftmostFirst).build(["cat"])?;
+    /// assert!(searcher.try_find_overlapping_iter("cat").is_err());
+    /// # Ok::<(), aho_corasick::BuildError>(())
+    /// ```
     pub fn try_find_overlapping_iter<'a, 'h, I: Into<Input<'h>>>(
         &'a self,
         input: I,
@@ -272,29 +314,27 @@ impl AhoCorasick {
     #[inline]
     pub(crate) fn every_by_kind(&self, input: &Input<'_>) -> Result<Every<'_>, MatchError> {
         self.check_overlapping()?;
-        let every = self.unanchored_every(input.get_anchored())?;
-        let has_few = self.patterns_len() <= FEW_PATTERNS && !self.has_empty();
-        Ok(Every { first: Some(&self.parts.leftmost).filter(|_| has_few), ..every })
-    }
-
-    /// The search for every occurrence, for calls that make no anchored search.
-    #[inline]
-    pub(crate) fn unanchored_every(&self, anchored: Anchored) -> Result<Every<'_>, MatchError> {
-        if anchored.is_anchored() {
+        if input.get_anchored().is_anchored() {
             return Err(MatchError::invalid_input_anchored());
         }
-        self.check(anchored)?;
-        self.every()
+        self.check(Anchored::No)?;
+        let every = self.every()?;
+        let has_few = self.patterns_len() <= FEW_PATTERNS && !self.has_empty();
+        Ok(Every { first: Some(&self.parts.leftmost).filter(|_| has_few), ..every })
     }
 
     /// Finds the next occurrence, in the order of [`AhoCorasick::find_overlapping_iter`]; in an anchored input the next
     /// one that begins at the start of the span. The state has the occurrence, and how far the search has come: pass the
     /// same input with it until there is none.
     ///
+    /// A leftmost kind has no overlapping matches. There it finds the first match, and before that the occurrences to which
+    /// another one is preferred later: those that a loop over the states of an
+    /// [`Automaton`](crate::automaton::Automaton) meets. It is much slower than a search.
+    ///
     /// # Panics
     ///
-    /// Like [`AhoCorasick::find`], and if the kind of match is not [`MatchKind::Standard`], or the input is not anchored
-    /// and the array for every occurrence can't be built. It may panic if the haystack has become shorter.
+    /// Like [`AhoCorasick::find`], and if the array for every occurrence, or by a leftmost kind the states, can't be built.
+    /// It may panic if the haystack has become shorter.
     ///
     /// ```
     /// use aho_corasick::{automaton::OverlappingState, AhoCorasick, Match};
@@ -316,6 +356,15 @@ impl AhoCorasick {
     /// # Errors
     ///
     /// Where that panics, except for the haystack.
+    ///
+    /// ```
+    /// use aho_corasick::{automaton::OverlappingState, AhoCorasick, Anchored, Input};
+    ///
+    /// let (searcher, mut state) = (AhoCorasick::new(["cat"])?, OverlappingState::start());
+    /// assert!(searcher.try_find_overlapping("cat", &mut state).is_ok() && state.get_match().is_some());
+    /// assert!(searcher.try_find_overlapping(Input::new("cat").anchored(Anchored::Yes), &mut state).is_err());
+    /// # Ok::<(), aho_corasick::BuildError>(())
+    /// ```
     #[inline]
     pub fn try_find_overlapping<'h, I: Into<Input<'h>>>(
         &self,
@@ -324,10 +373,12 @@ impl AhoCorasick {
     ) -> Result<(), MatchError> {
         let input = input.into();
         self.check(input.get_anchored())?;
-        self.check_overlapping()?;
-        match &self.parts.trie {
-            Some(trie) if input.get_anchored().is_anchored() => state.step_anchored(trie, &input),
-            _ => state.step(self.every()?, &input),
+        if self.parts.kind != MatchKind::Standard {
+            state.step_states(self.states()?, &self.parts.pieces, &input);
+        } else if input.get_anchored().is_anchored() {
+            state.step_anchored(self.trie()?, &input);
+        } else {
+            state.step(self.every()?, &input);
         }
         Ok(())
     }
@@ -346,6 +397,12 @@ impl AhoCorasick {
     #[cfg(feature = "std")]
     pub(crate) fn check_stream(&self) -> Result<(), MatchError> {
         self.check(Anchored::No)?;
+        self.check_empty()
+    }
+
+    /// Whether streams are searched for each of the patterns.
+    #[cfg(feature = "std")]
+    pub(crate) fn check_empty(&self) -> Result<(), MatchError> {
         if self.has_empty() {
             return Err(MatchError::unsupported_empty());
         }
@@ -385,10 +442,35 @@ impl AhoCorasick {
 
     fn way_by_flags(&self, input: &Input<'_>) -> Result<Way<'_>, MatchError> {
         self.check(input.get_anchored())?;
-        match &self.parts.trie {
-            Some(trie) if input.get_anchored().is_anchored() || self.has_empty() => Ok(Way::Trie(trie)),
-            _ => self.earliest().map(Way::Leftmost),
+        if input.get_anchored().is_anchored() || self.has_empty() {
+            self.trie().map(Way::Trie)
+        } else {
+            self.earliest().map(Way::Leftmost)
         }
+    }
+
+    /// What makes anchored searches.
+    fn trie(&self) -> Result<&Trie, MatchError> {
+        let Parts { kind, ignore_case, ref pieces, ref trie, .. } = *self.parts;
+        trie.get_or_try(|| Trie::new(kind, ignore_case, pieces)).map_err(not_built)
+    }
+
+    /// The states for loops over them, which the first call builds.
+    #[inline]
+    pub(crate) fn states(&self) -> Result<&States, MatchError> {
+        let Parts { kind, ignore_case, ref pieces, ref states, .. } = *self.parts;
+        states.get_or_try(|| States::new(kind, ignore_case, pieces)).map_err(not_built)
+    }
+
+    /// The match by a leftmost kind in a span, where no pattern is empty.
+    #[inline]
+    pub(crate) fn plain_match(&self, haystack: &[u8], span: Span) -> Option<Match> {
+        self.parts.leftmost.find(haystack, span)
+    }
+
+    /// The patterns, and whether case is ignored.
+    pub(crate) fn patterns(&self) -> (&Pieces, bool) {
+        (&self.parts.pieces, self.parts.ignore_case)
     }
 
     /// The search for the matches that end first, which the first call builds.
@@ -423,21 +505,49 @@ impl AhoCorasick {
     }
 
     /// The kind that [`AhoCorasickBuilder::kind`] asked for, and otherwise [`AhoCorasickKind::DFA`].
+    ///
+    /// ```
+    /// use aho_corasick::{AhoCorasick, AhoCorasickKind};
+    ///
+    /// assert_eq!(AhoCorasick::new(["cat"])?.kind(), AhoCorasickKind::DFA);
+    /// # Ok::<(), aho_corasick::BuildError>(())
+    /// ```
     pub fn kind(&self) -> AhoCorasickKind {
         self.parts.automaton
     }
 
     /// Which searches are made.
+    ///
+    /// ```
+    /// use aho_corasick::{AhoCorasick, StartKind};
+    ///
+    /// assert_eq!(AhoCorasick::new(["cat"])?.start_kind(), StartKind::Unanchored);
+    /// # Ok::<(), aho_corasick::BuildError>(())
+    /// ```
     pub fn start_kind(&self) -> StartKind {
         self.parts.start_kind
     }
 
     /// Which occurrences are matches.
+    ///
+    /// ```
+    /// use aho_corasick::{AhoCorasick, MatchKind};
+    ///
+    /// assert_eq!(AhoCorasick::new(["cat"])?.match_kind(), MatchKind::Standard);
+    /// # Ok::<(), aho_corasick::BuildError>(())
+    /// ```
     pub fn match_kind(&self) -> MatchKind {
         self.parts.kind
     }
 
     /// How many patterns there are.
+    ///
+    /// ```
+    /// use aho_corasick::AhoCorasick;
+    ///
+    /// assert_eq!(AhoCorasick::new(["cat", "bird"])?.patterns_len(), 2);
+    /// # Ok::<(), aho_corasick::BuildError>(())
+    /// ```
     pub fn patterns_len(&self) -> usize {
         self.parts.pieces.len()
     }
@@ -447,30 +557,54 @@ impl AhoCorasick {
         self.parts.pieces.len_of(pattern.as_u32())
     }
 
-    /// The length of the shortest pattern, and 0 without patterns.
+    /// The length of the shortest pattern, and `usize::MAX` without patterns.
+    ///
+    /// ```
+    /// use aho_corasick::AhoCorasick;
+    ///
+    /// assert_eq!(AhoCorasick::new(["cat", "bird"])?.min_pattern_len(), 3);
+    /// # Ok::<(), aho_corasick::BuildError>(())
+    /// ```
     pub fn min_pattern_len(&self) -> usize {
         self.parts.pieces.shortest
     }
 
     /// The length of the longest pattern, and 0 without patterns.
+    ///
+    /// ```
+    /// use aho_corasick::AhoCorasick;
+    ///
+    /// assert_eq!(AhoCorasick::new(["cat", "bird"])?.max_pattern_len(), 4);
+    /// # Ok::<(), aho_corasick::BuildError>(())
+    /// ```
     pub fn max_pattern_len(&self) -> usize {
         self.parts.pieces.longest
     }
 
-    /// About how many bytes the searcher takes in memory, with the arrays that searches have built.
+    /// About how many bytes the searcher takes in memory, with what searches have built.
+    ///
+    /// ```
+    /// use aho_corasick::AhoCorasick;
+    ///
+    /// assert!(AhoCorasick::new(["cat", "bird"])?.memory_usage() > 100);
+    /// # Ok::<(), aho_corasick::BuildError>(())
+    /// ```
     pub fn memory_usage(&self) -> usize {
-        let Parts { leftmost, earliest, trie, empty, pieces, every, .. } = &*self.parts;
-        let every = every.get().map_or(0, |it| size_of::<Prepared>() + it.memory_usage());
-        let earliest = earliest
-            .get()
-            .map_or(0, |it| size_of::<Option<Leftmost>>() + it.as_ref().map_or(0, Leftmost::memory_usage));
-        let own = size_of::<Parts>() + leftmost.memory_usage() + pieces.memory_usage() + every + earliest;
-        own + trie.as_ref().map_or(0, Trie::memory_usage) + empty.as_ref().map_or(0, Empty::memory_usage)
+        let Parts { leftmost, earliest, trie, empty, pieces, every, states, .. } = &*self.parts;
+        let of_earliest = |it: &Option<Leftmost>| it.as_ref().map_or(0, Leftmost::memory_usage);
+        size_of::<Parts>()
+            + leftmost.memory_usage()
+            + pieces.memory_usage()
+            + empty.as_ref().map_or(0, Empty::memory_usage)
+            + earliest.memory_usage(of_earliest)
+            + trie.memory_usage(Trie::memory_usage)
+            + every.memory_usage(Prepared::memory_usage)
+            + states.memory_usage(States::memory_usage)
     }
 }
 
-fn not_built(why: BuildError) -> MatchError {
-    MatchError::new(MatchErrorKind::NotBuilt { why })
+fn not_built(why: impl Into<BuildError>) -> MatchError {
+    MatchError::new(MatchErrorKind::NotBuilt { why: why.into() })
 }
 
 /// What a search returns.

@@ -28,9 +28,10 @@ pub fn head(text: &[u8]) -> u64 {
 
 /// Removes patterns that never match, because another one does wherever they occur: the standard match is never longer
 /// than another pattern that begins there, the leftmost-first one never follows another one in the list that it begins
-/// with, and of equal patterns only the first one matches. Afterwards, of the patterns that begin with one another, a
-/// longer one comes before a shorter one in the list by the leftmost-first kind.
-pub fn keep_matching(kind: MatchKind, pieces: &Pieces, sorted: &mut Vec<u32>) -> Result<(), Cause> {
+/// with, and of equal patterns only the first one matches. If `with_equal` is set, of equal patterns all stay that
+/// would match without the others. Afterwards, of the patterns that begin with one another, a longer one comes before a
+/// shorter one in the list by the leftmost-first kind.
+pub fn keep_matching(kind: MatchKind, with_equal: bool, pieces: &Pieces, sorted: &mut Vec<u32>) -> Result<(), Cause> {
     // (the patterns that begin with one follow it)
     let mut prefixes: Vec<u32> = with_room(sorted.len())?;
     sorted.retain(|number| {
@@ -38,22 +39,45 @@ pub fn keep_matching(kind: MatchKind, pieces: &Pieces, sorted: &mut Vec<u32>) ->
         while prefixes.last().map_or(false, |it| !pattern.starts_with(pieces.get(*it))) {
             prefixes.pop();
         }
-        let is_kept = prefixes.last().map_or(true, |prefix| match kind {
+        let is_shorter = |it: &u32| pieces.len_of(*it) < pattern.len();
+        let is_equal = !prefixes.last().map_or(true, is_shorter);
+        let shorter = prefixes.iter().rev().find(|it| is_shorter(it));
+        let would_match = shorter.map_or(true, |prefix| match kind {
             MatchKind::Standard => false,
             MatchKind::LeftmostFirst => number < prefix,
-            MatchKind::LeftmostLongest => pieces.len_of(*prefix) < pattern.len(),
+            MatchKind::LeftmostLongest => true,
         });
-        if is_kept {
+        if would_match && !is_equal {
             prefixes.push(*number);
         }
-        is_kept
+        would_match && (with_equal || !is_equal)
     });
     Ok(())
+}
+
+/// How many different prefixes sorted patterns have, with the empty one.
+pub fn count_prefixes(pieces: &Pieces, sorted: &[u32]) -> usize {
+    let mut before: &[u8] = &[];
+    let own = sorted.iter().map(|number| {
+        let pattern = pieces.get(*number);
+        let shared = before.iter().zip(pattern).take_while(|(one, other)| one == other).count();
+        before = pattern;
+        pattern.len() - shared
+    });
+    1 + own.sum::<usize>()
 }
 
 #[cfg(test)]
 mod tests {
     use super::*;
+
+    #[test]
+    fn prefixes_are_counted_once() {
+        for (patterns, count) in [(&[][..], 1), (&["", "b", "abc", "ab", "abd", "abc", "ba"], 7)] {
+            let pieces = Pieces::new(patterns).unwrap();
+            assert_eq!(count_prefixes(&pieces, &sorted(&pieces).unwrap()), count, "{patterns:?}");
+        }
+    }
 
     #[test]
     fn those_that_match_are_kept() {
@@ -65,7 +89,22 @@ mod tests {
         ] {
             let pieces = Pieces::new(patterns).unwrap();
             let mut numbers = sorted(&pieces).unwrap();
-            keep_matching(kind, &pieces, &mut numbers).unwrap();
+            keep_matching(kind, false, &pieces, &mut numbers).unwrap();
+            numbers.sort_unstable();
+            assert_eq!(numbers, kept, "{kind:?}");
+        }
+    }
+
+    #[test]
+    fn those_that_equal_one_that_matches_are_kept_if_that_is_asked() {
+        let pieces = Pieces::new(["ab", "abc", "b", "b", "ab", "bc", "abc", "cc", "c", "cc"]).unwrap();
+        for (kind, kept) in [
+            (MatchKind::Standard, &[0, 2, 3, 4, 8][..]),
+            (MatchKind::LeftmostFirst, &[0, 2, 3, 4, 7, 8]),
+            (MatchKind::LeftmostLongest, &[0, 1, 2, 3, 4, 5, 6, 7, 8, 9]),
+        ] {
+            let mut numbers = sorted(&pieces).unwrap();
+            keep_matching(kind, true, &pieces, &mut numbers).unwrap();
             numbers.sort_unstable();
             assert_eq!(numbers, kept, "{kind:?}");
         }

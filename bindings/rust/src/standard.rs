@@ -12,13 +12,13 @@ use crate::MatchKind;
 use alloc::vec::Vec;
 
 /// The length up to which patterns are looked for in others.
-const LONGEST: usize = 64;
+pub const LONGEST_KNOWN: usize = 64;
 
 /// The numbers of the late patterns, and perhaps of some in which only patterns of more than 64 bytes end early. Of
 /// equal patterns, it has the first. The order is that of the patterns.
 pub fn likely_late(pieces: &Pieces) -> Result<Vec<u32>, Cause> {
     let mut numbers = sorted(pieces)?;
-    keep_matching(MatchKind::Standard, pieces, &mut numbers)?;
+    keep_matching(MatchKind::Standard, false, pieces, &mut numbers)?;
     let is_late = Known::new(pieces, &numbers)?.are_late()?;
     let mut late = is_late.iter();
     numbers.retain(|_| late.next() == Some(&true));
@@ -77,7 +77,7 @@ impl<'p> Known<'p> {
             return false;
         }
         let (word, bit) = self.place(text);
-        self.hashes[word] & bit != 0 && self.is_known(&text[..text.len().min(LONGEST)])
+        self.hashes[word] & bit != 0 && self.is_known(&text[..text.len().min(LONGEST_KNOWN)])
     }
 
     /// Whether the text begins with a pattern: then none lies between that and the text in the order.

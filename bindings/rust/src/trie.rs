@@ -1,6 +1,6 @@
 //! A trie of the patterns, for anchored searches. They read no byte after the one with which no pattern goes on.
 use crate::error::Cause;
-use crate::pieces::{with_room, Pieces};
+use crate::pieces::{push, with_room, Pieces};
 use crate::sorted::{keep_matching, sorted};
 use crate::{Input, Match, MatchKind, PatternID, Span};
 use alloc::vec::Vec;
@@ -67,7 +67,7 @@ impl Trie {
         pieces.folded(ignore_case, |pieces| {
             let (is_standard, mut numbers) = (kind == MatchKind::Standard, sorted(pieces)?);
             if !is_standard {
-                keep_matching(kind, pieces, &mut numbers)?;
+                keep_matching(kind, false, pieces, &mut numbers)?;
             }
             let (nodes, labels, bytes, first) = (Vec::new(), Vec::new(), Vec::new(), Vec::new());
             let mut trie = Trie { ignore_case, is_standard, nodes, labels, bytes, numbers, first };
@@ -268,12 +268,6 @@ impl Beginning {
         }
         self.ended.next().map(|index| trie.named(index, input.start(), self.path.at))
     }
-}
-
-fn push<T>(list: &mut Vec<T>, value: T) -> Result<(), Cause> {
-    list.try_reserve(1).map_err(|_| Cause::OutOfMemory)?;
-    list.push(value);
-    Ok(())
 }
 
 /// A range in few bytes.

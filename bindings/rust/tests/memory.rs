@@ -1,15 +1,27 @@
 //! Memory that iterations with long patterns need, and what happens if it is refused.
-use aho_corasick::{AhoCorasick, BuildError, Input, Match, MatchErrorKind, MatchKind, StartKind};
+use aho_corasick::automaton::OverlappingState;
+use aho_corasick::{AhoCorasick, Anchored, BuildError, Input, Match, MatchErrorKind, MatchKind, StartKind};
 use std::alloc::{GlobalAlloc, Layout, System};
+use std::cell::Cell;
 use std::error::Error;
 use std::sync::atomic::{AtomicUsize, Ordering};
 use std::sync::Mutex;
 
-/// The system's memory. It refuses requests for more bytes than `MOST`, and notes in `LARGEST` the largest one.
+/// The system's memory. It refuses requests for more bytes than `MOST`, notes in `LARGEST` the largest one, and in `HELD`
+/// how many bytes a thread has allocated.
 struct Counted;
 
 static MOST: AtomicUsize = AtomicUsize::new(usize::MAX);
 static LARGEST: AtomicUsize = AtomicUsize::new(0);
+
+thread_local! {
+    static HELD: Cell<usize> = const { Cell::new(0) };
+}
+
+/// Notes that a thread has so many bytes in place of others.
+fn note(old: usize, new: usize) {
+    let _ = HELD.try_with(|it| it.set(it.get().wrapping_sub(old).wrapping_add(new)));
+}
 
 fn is_granted(len: usize) -> bool {
     LARGEST.fetch_max(len, Ordering::Relaxed);
@@ -20,6 +32,7 @@ fn is_granted(len: usize) -> bool {
 unsafe impl GlobalAlloc for Counted {
     unsafe fn alloc(&self, layout: Layout) -> *mut u8 {
         if is_granted(layout.size()) {
+            note(0, layout.size());
             System.alloc(layout)
         } else {
             std::ptr::null_mut()
@@ -28,6 +41,7 @@ unsafe impl GlobalAlloc for Counted {
 
     unsafe fn realloc(&self, old: *mut u8, layout: Layout, len: usize) -> *mut u8 {
         if is_granted(len) {
+            note(layout.size(), len);
             System.realloc(old, layout, len)
         } else {
             std::ptr::null_mut()
@@ -35,6 +49,7 @@ unsafe impl GlobalAlloc for Counted {
     }
 
     unsafe fn dealloc(&self, old: *mut u8, layout: Layout) {
+        note(layout.size(), 0);
         System.dealloc(old, layout)
     }
 }
@@ -109,6 +124,37 @@ fn builds_that_fail() {
 }
 
 #[test]
+fn the_second_array_can_be_built_at_once() {
+    let _alone = ALONE.lock();
+    for words in [&["append", "app", "end"][..], &["ab", "", "b"]] {
+        let usage = |kind, start_kind, overlapping| {
+            let mut builder = AhoCorasick::builder();
+            builder.match_kind(kind).start_kind(start_kind).overlapping(overlapping);
+            builder.build(words).unwrap().memory_usage()
+        };
+        for (kind, start_kind, is_built) in [
+            (MatchKind::Standard, StartKind::Unanchored, true),
+            (MatchKind::Standard, StartKind::Both, true),
+            (MatchKind::Standard, StartKind::Anchored, false),
+            (MatchKind::LeftmostFirst, StartKind::Both, false),
+        ] {
+            let (before, after) = (usage(kind, start_kind, false), usage(kind, start_kind, true));
+            assert_eq!(after > before, is_built, "{kind:?} {start_kind:?} {words:?}");
+        }
+        let searcher = AhoCorasick::builder().overlapping(true).build(words).unwrap();
+        let without = AhoCorasick::new(words).unwrap();
+        let (wanted, usage): (Vec<Match>, _) =
+            (without.find_overlapping_iter("append").collect(), searcher.memory_usage());
+        assert_eq!(searcher.find_overlapping_iter("append").collect::<Vec<Match>>(), wanted);
+        assert_eq!((searcher.memory_usage(), without.memory_usage()), (usage, usage));
+    }
+    // (the pattern in which another one ends is in the second array alone)
+    let words = ["b".to_string(), "b".repeat(50_000)];
+    let build = |overlapping| refusing(1 << 15, || AhoCorasick::builder().overlapping(overlapping).build(words.iter()));
+    assert!(build(true).is_err());
+}
+
+#[test]
 fn occurrences_within_a_long_pattern() {
     let _alone = ALONE.lock();
     let words: Vec<String> = (1..21).map(|it| "a".repeat(it)).chain(["a".repeat(5000) + "b"]).collect();
@@ -119,4 +165,31 @@ fn occurrences_within_a_long_pattern() {
     // (200,000 lie within twice the longest pattern)
     assert!(LARGEST.load(Ordering::Relaxed) <= 100_000, "{}", LARGEST.load(Ordering::Relaxed));
     assert_eq!(count(1 << 14), wanted);
+}
+
+#[test]
+fn memory_usage_is_what_is_held() {
+    let _alone = ALONE.lock();
+    let words =
+        |count: u32| -> Vec<String> { (0..count).map(|it| format!("{:x}", it.wrapping_mul(0x9E37_79B9))).collect() };
+    let assert_usage = |searcher: &AhoCorasick, before: usize| {
+        let (held, told) = (HELD.with(Cell::get) - before, searcher.memory_usage());
+        assert!(held.abs_diff(told) <= 64, "{held} {told} {searcher:?}");
+    };
+    for kind in [MatchKind::Standard, MatchKind::LeftmostFirst, MatchKind::LeftmostLongest] {
+        for (start_kind, words) in [StartKind::Unanchored, StartKind::Both].into_iter().flat_map(|it| {
+            let mut others = words(40);
+            others.extend(["ab", "xabx", "b", ""].map(String::from));
+            [(it, words(1)), (it, words(1000)), (it, others[..43].to_vec()), (it, others)]
+        }) {
+            let before = HELD.with(Cell::get);
+            let searcher = AhoCorasick::builder().match_kind(kind).start_kind(start_kind).build(&words).unwrap();
+            assert_usage(&searcher, before);
+            searcher.is_match(Input::new("xab").anchored(Anchored::Yes));
+            searcher.find(Input::new("xab").earliest(true));
+            let _ = searcher.try_find_overlapping_iter("xab").map(Iterator::count);
+            searcher.find_overlapping("xab", &mut OverlappingState::start());
+            assert_usage(&searcher, before);
+        }
+    }
 }
