@@ -50,7 +50,8 @@ def digest(processor):
     """The digest of all that the wheel is built from."""
     of_package = [it for it in sorted(PACKAGE.iterdir()) if it.suffix in (".c", ".h", ".py", ".pyi", ".typed")]
     about = [FOLDER / "setup.cfg", FOLDER / "README.md", *(TOP / it for it in LICENCES)]
-    files = [*of_package, *about, HEADER, library_for(processor), Path(__file__)]
+    how = [Path(__file__), Path(__file__).with_name("wheels.py")]
+    files = [*of_package, *about, HEADER, library_for(processor), *how]
     sums = "".join(f"{hashlib.sha256(it.read_bytes()).hexdigest()}  {it.relative_to(TOP)}\n" for it in files)
     return hashlib.sha256(sums.encode()).hexdigest()
 
