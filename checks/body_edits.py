@@ -2,7 +2,7 @@
 one."""
 import re
 
-from rattle_source import functions_in
+from rattle_source import functions_in, functions_named
 
 LINE = re.compile(r"(edit|file|in|old|new|breaks|shape):(?: (.*))?")
 BREAKS = re.compile(r"(\S+)(?: of (\S+))?")
@@ -25,44 +25,50 @@ class Crate:
     def take_names(self, names):
         """Takes the names that a check reports: it has the methods of an impl below the module of the type, wherever
         the impl stands."""
-        for functions in self.functions.values():
-            for name in (it.name for it in functions):
-                same = [it for it in names if it.split("::")[-2:] == name.split("::")[-2:]]
-                self.reported[name] = same[0] if name not in names and len(same) == 1 else name
+        for name in (it.name for functions in self.functions.values() for it in functions):
+            same = [it for it in names if it.split("::")[-2:] == name.split("::")[-2:]]
+            self.reported[name] = same[0] if name not in names and len(same) == 1 else name
 
-    def with_bodies(self, path, bodies):
-        """Returns the text of a file with these bodies, by their numbers, in place of its own."""
-        text = self.texts[path]
-        for number, body in sorted(bodies.items(), reverse=True):
-            function = self.functions[path][number]
-            text = text[: function.start] + body + text[function.end :]
-        return text
+    def edits(self):
+        """Returns its edits. What stands in a file before the first line `edit:` holds for each in the file."""
+        edits, folder = [], self.folder / "wrong-bodies"
+        for path in sorted(folder.glob("**/*.edits")):
+            head, *blocks = re.split(r"^(?=edit:)", path.read_text("utf-8"), flags=re.M)
+            for block in blocks:
+                edit = Edit(self, path.relative_to(folder).with_suffix("").as_posix(), head + block)
+                is_known = any(other.name == edit.name for other in edits)
+                edit.fault = "another edit has its name" if is_known else edit.fault
+                edits.append(edit)
+        return edits
 
-
-def edits_in(path, crate):
-    """Returns the edits in a file: what stands before the first line `edit:` holds for each."""
-    head, *blocks = re.split(r"^(?=edit:)", path.read_text("utf-8"), flags=re.M)
-    module = "/".join(path.relative_to(crate.folder / "wrong-bodies").with_suffix("").parts)
-    return [Edit(module, head + block, crate) for block in blocks]
+    def texts_with(self, edits):
+        """Yields the files whose bodies edits change, each with its text if all of these are made."""
+        bodies = sorted((*place, body) for edit in edits for place, body in edit.bodies.items())
+        for path in dict.fromkeys(path for path, *_ in bodies):
+            text = self.texts[path]
+            for function, body in [(self.functions[path][at], it) for of, at, it in reversed(bodies) if of == path]:
+                text = text[: function.start] + body + text[function.end :]
+            yield path, text
 
 
 class Edit:
-    """An edit of a crate: the file that it stands in, and its own name; its lines; each file that it changes, by path,
-    as it makes it, and each body, by path and number in that file; whether it is loose, and changes more than bodies,
-    as a constant or a contract; the names of the functions whose bodies it changes, or of the one that has to refuse it
-    if it is loose; the clause that has to refuse it; its line `shape:`; and why it cannot be applied, or an empty text.
-    """
+    """An edit of a crate: the file that it stands in, and its name with that of the file; its lines; each source that
+    it changes, by path, as it makes it, and each body, by path and number in that file; whether it is loose, and
+    changes more than bodies, as a constant or a contract; the names of the functions whose bodies it changes, or of the
+    one that has to refuse it if it is loose; the clause that has to refuse it; its line `shape:`; and why it cannot be
+    applied, or an empty text."""
 
-    def __init__(self, module, lines, crate):
-        self.name, self.texts, self.bodies, self.functions = module, {}, {}, []
-        self.lines = [*filter(str.strip, lines.split("\n"))]
-        self.is_loose, self.clause, self.breaker, self.shape, self.fault = False, "", "", "", ""
+    def __init__(self, crate, file, lines):
+        self.crate, self.file, self.name = crate, f"{crate.name}/{file}", f"{crate.name}/{file}"
+        self.lines, self.texts, self.bodies = [*filter(str.strip, lines.split("\n"))], {}, {}
+        self.is_loose, self.functions, self.clause, self.shape, self.fault = False, [], "", "", ""
         try:
-            self.read(crate)
+            breaker = self.read()
             for path, text in self.texts.items():
-                self.compare(path, text, crate)
+                self.compare(path, text)
             if self.is_loose:
-                self.functions = [self.breaker] if self.breaker else []
+                every = [it for functions in crate.functions.values() for it in functions]
+                self.functions = [the_function(every, breaker, crate.name).name] if breaker else []
             if not self.functions:
                 raise BadEdit("it changes no function, nor does 'breaks: CLAUSE of FUNCTION' say where it shows")
             if not self.clause and not self.shape:
@@ -70,54 +76,55 @@ class Edit:
         except BadEdit as why:
             self.fault = str(why)
 
-    def read(self, crate):
-        """Applies the pairs of the edit one after the other."""
-        path = function = old = ""
+    def read(self):
+        """Applies the pairs of the edit one after the other, and returns the function that its line `breaks:` names."""
+        path = function = old = breaker = ""
         for line in self.lines:
             found = LINE.fullmatch(line)
             head, text = found.groups("") if found else ("", "")
             if head == "edit":
-                self.name = f"{self.name}/{text.strip()}"
-            elif head == "file" and text.strip() in crate.texts:
+                self.name = f"{self.file}/{text.strip()}"
+            elif head == "file" and text.strip() in self.crate.texts:
                 path, function = text.strip(), ""
             elif head == "in":
                 function = text.strip()
             elif head == "old":
                 old = text
             elif head == "new":
-                before = self.texts.get(path, crate.texts.get(path, ""))
-                self.texts[path] = replaced(before, path, function, old, text, crate)
-                old = ""
+                before = self.texts.get(path, self.crate.texts.get(path, ""))
+                self.texts[path], old = replaced(before, path, function, old, text), ""
             elif head == "breaks" and BREAKS.fullmatch(text.strip()):
-                self.clause, self.breaker = BREAKS.fullmatch(text.strip()).groups("")
+                self.clause, breaker = BREAKS.fullmatch(text.strip()).groups("")
             elif head == "shape":
                 self.shape = text.strip()
             else:
                 raise BadEdit(f"a line is none of an edit: {line}")
+        return breaker
 
-    def compare(self, path, text, crate):
+    def compare(self, path, text):
         """Finds what the edit changes in a file."""
-        before, old, new = crate.texts[path], crate.functions[path], functions_in(text, path)
+        before, old, new = self.crate.texts[path], self.crate.functions[path], functions_in(text, path)
         self.is_loose |= [it.name for it in old] != [it.name for it in new] or beside(before, old) != beside(text, new)
         for number, (was, now) in enumerate(zip(old, new)):
             if before[was.start : was.end] != text[now.start : now.end]:
                 self.bodies[path, number] = text[now.start : now.end]
-                self.functions.append(crate.reported[was.name])
+                self.functions.append(was.name)
 
 
-def replaced(text, path, name, old, new, crate):
-    """Returns a text with the one place of an old text replaced, in the body of a function where one is named, by its
-    name or the last segments of that."""
-    start, end, where = 0, len(text), path
-    if name:
-        functions = functions_in(text, path)
-        found = [it for it in functions if f"::{crate.reported.get(it.name, it.name)}".endswith(f"::{name}")]
-        if len(found) != 1:
-            raise BadEdit(f"'in: {name}' names {len(found)} functions of {path}, and not one")
-        start, end, where = found[0].start, found[0].end, f"the body of {name}"
+def the_function(functions, name, where):
+    """Returns the one function with a name."""
+    found = functions_named(functions, name)
+    if len(found) != 1:
+        raise BadEdit(f"{name} names {len(found)} functions of {where}, and not one")
+    return found[0]
+
+
+def replaced(text, path, name, old, new):
+    """Returns a text with the one place of an old text replaced, in the body of a function where one is named."""
+    start, end = the_function(functions_in(text, path), name, path)[2:] if name else (0, len(text))
     count = text.count(old, start, end) if old else 0
     if count != 1:
-        raise BadEdit(f"an 'old:' text is in {where} {count} times, and not once")
+        raise BadEdit(f"an 'old:' text is in {f'the body of {name}' if name else path} {count} times, and not once")
     at = text.index(old, start, end)
     return text[:at] + new + text[at + len(old) :]
 

@@ -1,4 +1,4 @@
-#!/usr/bin/env python3
+#!/usr/bin/env -S python3 -B
 """Writes the table of case foldings, crates/literal_folding/src/foldings.rt, from Unicode's CaseFolding.txt.
 
   checks/case_foldings.py            writes the table
@@ -10,6 +10,10 @@ check is no part of ./test, since the package may be missing.
 """
 import sys
 from pathlib import Path
+
+from judged import answer_help
+
+answer_help()
 
 SOURCE = Path("/usr/share/unicode/CaseFolding.txt")
 TABLE = Path(__file__).resolve().parent.parent / "crates/literal_folding/src/foldings.rt"

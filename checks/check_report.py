@@ -19,19 +19,21 @@ WAITS = re.compile(r"which (is|are) not proved|waits for the proof")
 
 
 class Report:
-    """What a check said of a crate: whether it came as far as the prover, its first error, what it says of each
-    function and impl, and what refused the own proof of each function that is not proved."""
+    """What a check said of a crate: whether it came as far as the prover, its first error, and by the names of
+    functions in the sources what it says of each, and what refused the own proof of each that is not proved."""
 
     def __init__(self, said, crate):
         # (`only=0` is what a first look says, which proves nothing)
         self.is_judged = re.search(r"^(logic=|only=[1-9])", said, re.M) is not None
         errors = [line for line in said.split("\n") if re.search(r"error[:\[]", line)]
         self.fault = (errors or [said[-200:].strip()])[0][:200]
-        self.lines = dict(re.findall(rf"^(?:fn|impl) {crate.name}::(\S+): (.*)", said, re.M))
-        self.refusals = {}
+        self.lines, self.refusals = {}, {}
+        names = {reported: name for name, reported in crate.reported.items()}
         at_values = functions_with_a_false_goal(said, crate)
-        for name, line in self.lines.items():
+        for name, line in re.findall(rf"^(?:fn|impl) {crate.name}::(\S+): (.*)", said, re.M):
             function = CLOSURE.sub(r"\1\2", name)
+            function = names.get(function, function)
+            self.lines[names.get(name, name)] = line
             refusal = refusal_of(line, errors_of(said, name), function in at_values)
             if refusal:
                 self.refusals.setdefault(function, refusal)
@@ -41,8 +43,8 @@ def functions_with_a_false_goal(said, crate):
     """Returns the functions of which a note says that a goal is false at some values."""
     found = set()
     for path, line in FALSE.findall(said):
-        ends = ((it, crate.texts[path].count("\n", 0, it.end) + 1) for it in crate.functions[path])
-        found.add(next((crate.reported.get(it.name) for it, end in ends if end >= int(line)), None))
+        ends = ((it.name, crate.texts[path].count("\n", 0, it.end) + 1) for it in crate.functions[path])
+        found.add(next((name for name, end in ends if end >= int(line)), None))
     return found
 
 

@@ -1,4 +1,4 @@
-#!/usr/bin/env python3
+#!/usr/bin/env -S python3 -B
 """Writes the tables of docs/DEFINITIONS.md anew, from the comments in the files of specs.
 
   checks/definitions_page.py
@@ -12,6 +12,10 @@ comments are written anew. A definition that has a row there gets none in a late
 """
 import re
 from pathlib import Path
+
+from judged import answer_help
+
+answer_help()
 
 PATH = "docs/DEFINITIONS.md"
 

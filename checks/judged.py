@@ -1,4 +1,16 @@
-"""How a check tells what it judges: a line for each case, and as its last line 'N passed, M failed'."""
+"""How a check tells what it judges: a line for each case, and as its last line 'N passed, M failed'. A script that
+imports this, by itself or by workspace.py, answers the single word --help with its doc string."""
+import sys
+
+
+def answer_help():
+    """Ends the script with its doc string, if its command line is --help."""
+    if sys.argv[1:] == ["--help"]:
+        print(sys.modules["__main__"].__doc__.strip())
+        sys.exit()
+
+
+answer_help()
 
 
 class Failed(Exception):

@@ -23,6 +23,10 @@ FOR_CONTRACTS = re.compile(
 )
 TERM = re.compile(r"\s*(?P<sign>[:=]?)\s*(?=\{)")
 SEPARATOR = re.compile(r"\s*[;,]?")
+COMMENT_LINE = re.compile(r"^[ \t]*\0[ \t]*\n", re.M)
+END_OF_LINE = re.compile(r"[ \t\0]+$", re.M)
+BLANK_LINES = re.compile(r"\n(?:[ \t]*\n)+")
+END_OF_ITEM = re.compile(r"(?:\S.*)?[;}]|#!.*")
 TESTS = re.compile(r"#\[cfg\(test\)\]\s*mod\s+\w+\s*(?=\{)")
 
 
@@ -42,6 +46,29 @@ def without_tests(text):
     for found in TESTS.finditer(code_of(text)):
         text = blanked(text, found.start(), closing(code_of(text), found.end()))
     return text
+
+
+def bare_rattle(text):
+    """A Rattle text without comments, blank lines and tests, each literal on one line."""
+    text = COMMENT_OR_LITERAL.sub(lambda it: "\0" if it[0][:2] in ("//", "/*") else it[0].replace("\n", "\u2424"),
+                                  without_tests(text) + "\n")
+    return END_OF_LINE.sub("", BLANK_LINES.sub("\n", COMMENT_LINE.sub("", text))).replace("\0", "")
+
+
+def items_of(text):
+    """The items of a bare Rattle text, in the toolchain's layout."""
+    item = []
+    for line in text.split("\n"):
+        item += [line] if line.strip() else []
+        if END_OF_ITEM.fullmatch(line):
+            yield "\n".join(item)
+            item = []
+    yield "\n".join(item)
+
+
+def names_in(text):
+    """The names that a text can have, of code or of the logic."""
+    return {*re.findall(r"\w+", text), *re.findall(r"[^\s(){}:.,;]+", text)}
 
 
 @functools.lru_cache(maxsize=None)
@@ -72,6 +99,11 @@ def functions_in(text, path):
     # (src/lib.rt stands for no module, src/a/b.rt for `a` and `b`)
     modules = [name for name in re.sub(r"^src/|(\b(lib|main|mod))?\.rt$", "", path).split("/") if name]
     return list(functions_below(code, 0, len(code), modules))
+
+
+def functions_named(functions, name):
+    """Returns the functions with a name, or with the last segments of one."""
+    return [it for it in functions if f"::{it.name}".endswith(f"::{name}")]
 
 
 def functions_below(code, at, end, modules):

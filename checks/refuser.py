@@ -18,25 +18,20 @@ class Refuser:
         words = ["cc", "-O1", "-fPIC", "-fno-builtin", "-shared", "-nostdlib", source, "-o", self.library]
         subprocess.run(words, stdin=subprocess.DEVNULL, check=True)
 
-    def run(self, words, request, **how):
-        """The status of a program of which this request is refused, what it said, and whether one was."""
-        if os.path.exists(self.mark):
-            os.remove(self.mark)
-        given = {"LD_PRELOAD": self.library, "REFUSED_REQUEST": str(request), "REFUSED_MARK": self.mark}
-        how = {"stdout": subprocess.PIPE, "stderr": subprocess.STDOUT, "text": True, "errors": "replace", **how}
-        try:
-            ran = subprocess.run(words, cwd=self.folder, env=given, timeout=SECONDS, **how)
-        except subprocess.TimeoutExpired:
-            return None, f"it had not ended after {SECONDS} seconds\n", False
-        return ran.returncode, ran.stdout, os.path.exists(self.mark)
-
     def refuse_in_turn(self, words, judge, **how):
         """Runs a program with its first request for memory refused, then with its second, and so on until none is.
         Returns what `judge` says of each run, by its status, what it said, and whether a request was refused."""
+        how = {"stdout": subprocess.PIPE, "stderr": subprocess.STDOUT, "text": True, "errors": "replace", **how}
         found = []
         for request in range(1, MOST + 1):
-            status, said, refused = self.run(words, request, **how)
-            found.append(judge(status, said, refused))
+            given = {"LD_PRELOAD": self.library, "REFUSED_REQUEST": str(request), "REFUSED_MARK": self.mark}
+            try:
+                ran = subprocess.run(words, cwd=self.folder, env=given, timeout=SECONDS, **how)
+            except subprocess.TimeoutExpired:
+                raise Failed(f"{words[-1]} had not ended after {SECONDS} seconds") from None
+            refused = os.path.exists(self.mark)
+            found.append(judge(ran.returncode, ran.stdout, refused))
             if not refused:
                 return found[:-1]
+            os.remove(self.mark)
         raise Failed(f"{words[-1]} makes more than {MOST} requests")

@@ -6,7 +6,7 @@ import re
 import calling_page
 import definitions_page
 import search_rules
-from calling_page import blocks_of, contract_of, page_of, quotes_of
+from calling_page import blocks_of, contract_of, quotes_of
 from rattle_source import code_of, functions_in, without_tests
 
 # The only proofs that are walked by hand: a walk elsewhere could forge a count of steps.
@@ -29,7 +29,8 @@ CITATIONS = re.compile(
 # What is not read, by its path from the top: git's own, what is built, digests, and what Python keeps of the checks.
 # Elsewhere a folder of such a name is one of proofs, of a function that is called so.
 NOT_READ = re.compile(
-    r"\.git|dist/\w+-linux-gnu|checks/refused|(?:crates/\w+/|bindings/)?out|bindings/rust/(?:lib|target)"
+    r"\.git|dist/\w+-(?:linux|linux-gnu|windows)|checks/refused"
+    r"|(?:crates/\w+/|bindings/)?out|bindings/rust/(?:lib|target)"
     r"|(?:checks|bindings/(?:c|\w+/\w+))/__pycache__|.*\.so|dist/.*\.whl"
 )
 
@@ -39,18 +40,21 @@ LIBRARY_MODULE = re.compile(r"crates/(literal_\w+)/src/(?!lib\.rt|\w*tests\.rt)(
 # What the root of a crate uses of a module, and what a module uses of the root.
 EXPORTS = re.compile(r"^(?:pub )?use (\w+)::(\w+|\{[^}]*\});", re.M)
 OF_ROOT = re.compile(r"\bcrate::(?:(\w+)|\{([^}]*)\})")
+# How a script answers --help: by checks/judged.py, or by printing its first comment.
+HELPS = re.compile(r"""^(?:from|import) (?:judged|workspace)\b|^\[ "\$\{1-\}" != --help \] \|\| exec sed """, re.M)
 WIDE = re.compile(r"^.{121,}")
 MISSING = re.compile(re.escape(f"| {definitions_page.MISSING} |"))
 
 # Where an example on the page for callers, of code or of a proof, may stand.
 EXAMPLES = {
-    "rust": re.compile(r"crates/\w+/src/(?:\w+/)*tests\.rt|crates/(?:literal_examples|test_contracts)/src/\w+\.rt"),
+    "rust": re.compile(r"crates/\w+/src/(?:\w+/)*tests\.rt|crates/(?:literal_examples|test_contracts)/src/\w+\.rt"
+                       r"|crates/marker/src/main\.rt"),
     "antt": re.compile(r"crates/\w+/proofs/.*\.antt"),
 }
 
 
 # The crates that show how the others are called, and how a text cites the lemmas of a crate.
-SHOWING = re.compile(r"crates/(literal_examples|literal_promise|readme_example|search_promise|test_contracts)/.*")
+SHOWING = re.compile(r"crates/(literal_examples|literal_promise|marker|search_promise|test_contracts)/.*")
 CITED = re.compile(r"\b(literal_\w+)(?:\.|::)proofs(?:\.|::)lemmas(?:\.|::)(\w+)")
 
 
@@ -106,6 +110,13 @@ def sizes(texts):
             for number, line in lines_with(WIDE, text):
                 if not (path.endswith(".md") and line.startswith(("|", "#"))):
                     yield f"{path}:{number}: more than 120 columns"
+
+
+def helps(texts):
+    """Each script but the two that start programs answers --help: with its doc string, or with its first comment."""
+    for path, text in texts.items():
+        if re.match(r"#!/.*(?:sh|python3)\b", text) and path not in ("litfind", "litscan") and not HELPS.search(text):
+            yield f"{path} does not answer --help: import checks/judged.py, or begin as ./install"
 
 
 def lemmas(texts):
@@ -179,8 +190,8 @@ def comments_of(text):
 
 def examples(texts):
     """Each example in a document or a comment of documentation stands, line for line, in a function that is a test, or
-    is a whole program. On the page for callers it may stand in a function that shows how the crates are called, and
-    each of a proof stands in a proof file. The files of the program that `checks/used` proves stand nowhere else."""
+    is a whole program. On the page for callers it may stand in a function that shows how the crates are called, or in
+    the program that `checks/used` proves, and each of a proof stands in a proof file."""
     held = {kind: [plain_lines(text) for path, text in texts.items() if place.fullmatch(path)]
             for kind, place in EXAMPLES.items()}
     programs = [text for path, text in texts.items() if path.endswith("/src/main.rt")]
@@ -189,11 +200,10 @@ def examples(texts):
                  for path, text in texts.items() if path.endswith((".rt", ".md"))}
     for path, text in documents.items():
         is_page = path == calling_page.PATH
-        proved = page_of(text).files.values() if is_page else ()
-        for kind, block, _ in blocks_of(text):
+        for kind, block in blocks_of(text):
             lines = plain_lines(block)
             places = tests if kind == "rust" and not is_page else held.get(kind)
-            if places is None or block in proved or block in programs:
+            if places is None or block in programs:
                 continue
             if not any(lines in one for one in places):
                 yield f"{path}: an example stands in no test, caller or proof: {lines.splitlines()[0]}"
@@ -225,7 +235,7 @@ def contracts_in(text, path):
     return [contract_of(re.sub(r"^ *//.*\n", "", head, flags=re.M)) for head in heads]
 
 
-RULES = [handles, walks, citations, sizes, lemmas, circles, unsafe, definitions, examples, quotes]
+RULES = [handles, walks, citations, sizes, helps, lemmas, circles, unsafe, definitions, examples, quotes]
 
 
 def broken_rules(texts):

@@ -13,12 +13,6 @@ import re
 
 from rattle_source import BRACKETS, closing, functions_in, plain_code, without_tests, words_of
 
-# Crates of callers, tests and examples, which no rule here reads.
-TEST_CRATES = (
-    "test_calls", "test_compared", "test_contracts", "test_refused_memory", "test_search_calls", "test_worked_cases",
-    "literal_examples", "litscan",
-)
-
 # Crates whose code may have a haystack in hand.
 SEARCH_CRATES = ("literal_packed", "literal_fingerprints", "literal_prefilters", "literal_rows", "literal_leftmost",
                  "literal_occurrences", "literal_words", "literal_pieces", "literal_search")
@@ -133,9 +127,9 @@ def short(function):
 
 
 def sources_of(texts):
-    """The sources outside of tests, of the texts of a repository by their paths."""
+    """The sources outside of tests, callers and examples, of the texts of a repository by their paths."""
     code = {path: text for path, text in texts.items() if re.match(r"crates/\w+/src/.*\.rt$", path)}
-    tests = [rf"crates/(?:{'|'.join(TEST_CRATES)})/"]
+    tests = [r"crates/(?:test_\w+|literal_examples|litscan)/"]
     for path, text in code.items():
         folder = re.sub(r"(?:/(?:lib|main|mod))?\.rt$", "", path)
         tests += [rf"{folder}/{name}(?:\.rt|/)" for name in re.findall(r"#\[cfg\(test\)\]\s*mod\s+(\w+);", text)]

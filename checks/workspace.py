@@ -7,6 +7,10 @@ import shutil
 import subprocess
 from pathlib import Path
 
+from judged import answer_help
+
+answer_help()
+
 TOP = os.path.dirname(os.path.dirname(os.path.abspath(__file__)))
 DIST = os.path.join(TOP, "dist", "x86_64-linux-gnu")
 MEMORY_OF_A_PROOF = 2e9
