@@ -79,6 +79,15 @@ def handles(texts):
         yield "HANDLES has to hold the one line 'Handles allowed: none.'"
 
 
+def places(texts):
+    """Code, definitions and proofs stand in crates of crates.txt alone: the kit's gate refuses them elsewhere."""
+    crates = "|".join(re.findall(r"^\w+", texts["crates.txt"], re.M))
+    place = re.compile(rf"crates/(?:{crates})/(?:src/.*\.rt|(?:specs|proofs)/.*\.antt)")
+    for path in texts:
+        if path.endswith((".rt", ".antt")) and not place.fullmatch(path):
+            yield f"{path} is in no crate of crates.txt"
+
+
 def walks(texts):
     """Proofs by hand stand where they are listed."""
     for path in texts:
@@ -235,7 +244,7 @@ def contracts_in(text, path):
     return [contract_of(re.sub(r"^ *//.*\n", "", head, flags=re.M)) for head in heads]
 
 
-RULES = [handles, walks, citations, sizes, helps, lemmas, circles, unsafe, definitions, examples, quotes]
+RULES = [handles, places, walks, citations, sizes, helps, lemmas, circles, unsafe, definitions, examples, quotes]
 
 
 def broken_rules(texts):
