@@ -43,7 +43,7 @@ pub extern "C" fn literal_prepare(
 {
     match search_for(alloc, kind, ignore_case, patterns, ends) {
         Err(refusal) => refusal.status(),
-        Ok(search) => match search.prepare(prepared) {
+        Ok(search) => match search.into_prepared(prepared) {
             Ok(places) => {
                 *needed = places;
                 LITERAL_OK
@@ -84,7 +84,7 @@ pub extern "C" fn literal_prepare_overlapping(
 {
     match search_for_all(alloc, ignore_case, patterns, ends) {
         Err(refusal) => refusal.status(),
-        Ok(search) => match search.prepare(prepared) {
+        Ok(search) => match search.into_prepared(prepared) {
             Ok(places) => {
                 *needed = places;
                 LITERAL_OK

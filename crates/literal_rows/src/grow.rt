@@ -67,7 +67,7 @@ impl<'p> Construction<'p> {
             ..
         } = self.states[state];
         classes_after.clear();
-        for pattern in &self.lists[start..end] {
+        for pattern in &self.lists[start as usize..end as usize] {
             classes_after.push(self.texts.class_after(*pattern, depth))?;
         }
         Ok(())
@@ -134,13 +134,14 @@ impl<'p> Construction<'p> {
         &self,
         state: usize,
         class: u8,
-        start: usize,
+        start: u32,
         whole: Option<u32>,
         failure: u32,
     ) -> State
         requires grows { Grows self.now }
         requires is_state { state < length self.now.states.items }
         requires some { start < length self.now.lists.items }
+        requires few { length self.now.lists.items < 2 ^ 32 }
         requires listed { slice_range self.now.lists.items start (length self.now.lists.items)
             ≡ list_for (texts_of self.now.texts) (word_after self.now state class) }
         requires whole { whole ≡ first_equal (texts_of self.now.texts) (word_after self.now state class) }
@@ -152,10 +153,10 @@ impl<'p> Construction<'p> {
         let _ = class; // (its contract names it)
         let ending = whole.unwrap_or(self.ending_of(failure));
         State {
-            pattern: self.lists[start],
+            pattern: self.lists[start as usize],
             depth: self.states[state].depth + 1,
             start,
-            end: self.lists.len(),
+            end: self.lists.len() as u32,
             failure,
             ending,
         }
@@ -231,7 +232,10 @@ impl<'p> Construction<'p> {
         if self.lists.len() == start {
             return Ok(failure);
         }
-        let next = self.state_after(state, class, start, whole, failure);
+        if self.lists.len() > u32::MAX as usize {
+            return Err(GrowError::OutOfMemory);
+        }
+        let next = self.state_after(state, class, start as u32, whole, failure);
         let code = self.add_state(next)?;
         Ok(code)
     }
@@ -427,7 +431,7 @@ fn start<'p>(alloc: Global, texts: Texts<'p>) -> Result<Construction<'p>, AllocE
         pattern: 0,
         depth: 0,
         start: 0,
-        end: lists.len(),
+        end: texts.patterns.len() as u32,
         failure: 0,
         ending: NOTHING,
     })?;

@@ -4,6 +4,7 @@ ghost use Rattle.std.specs.Prelude.{slice_index};
 ghost use Rattle.literal_rows.specs.Inside.Arrays.{IsPut, kind_number, numbers_for, version_for};
 ghost use Rattle.literal_rows.specs.Arrays.{ArePrints, AreShort};
 ghost use Rattle.literal_rows.specs.Inside.Kept.{numbers_kept};
+ghost use Rattle.literal_rows.specs.Inside.Packed.{Puts};
 
 use crate::array::{
     ArrayTooShort, NO_LISTED, NO_PATTERN, NO_PATTERN_LONGEST, SCAN_LEN, assemble, scan_numbers,
@@ -14,6 +15,9 @@ use literal_base::packed::MatchKind;
 use literal_fingerprints::CandidateScan;
 use std::alloc::{AllocError, Global};
 use std::marker::Model;
+
+/// How many numbers are written before their memory is freed.
+const FREED: usize = 1 << 22;
 
 /// The numbers of a search, as `prepare` writes them. Contracts see them.
 #[derive(Drop)]
@@ -95,6 +99,22 @@ impl Numbers {
         Ok(needed)
     }
 
+    /// Like [`Numbers::put`], and frees the numbers while it writes them. So they are not in memory twice.
+    pub fn put_all(self, array: &mut [u32]) -> Result<usize, ArrayTooShort>
+        ensures { IsPut self array.old array.new result }
+    {
+        let needed = self.as_slice().len();
+        if array.len() < needed {
+            return Err(ArrayTooShort { needed });
+        }
+        if self.kept.is_empty() {
+            put_numbers(array, 0, self.as_slice());
+            return Ok(needed);
+        }
+        move_numbers(array, self.kept);
+        Ok(needed)
+    }
+
     /// A copy, for the same patterns and match kind. Allocates only if there is a pattern.
     pub fn copy(
         &self,
@@ -113,6 +133,20 @@ impl Numbers {
         kept.extend_from_slice(&self.kept)?;
         let kind = self.kind;
         Ok(Numbers { kept, kind })
+    }
+}
+
+/// Writes numbers into the first entries of an array, the last numbers first, and frees those that are written.
+fn move_numbers(array: &mut [u32], numbers: Vec<u32>)
+    requires { length numbers.items ≤ length array.old }
+    ensures { Puts 0 numbers.items array.old array.new }
+{
+    let mut rest = numbers;
+    while !rest.is_empty() {
+        let from = rest.len().saturating_sub(FREED);
+        put_numbers(array, from, &rest[from..]);
+        rest.truncate(from);
+        rest.shrink_to_fit();
     }
 }
 

@@ -35,8 +35,8 @@ pub struct State {
     /// The length of the word.
     pub depth: u32,
     /// The start and the end of its list in all lists.
-    pub start: usize,
-    pub end: usize,
+    pub start: u32,
+    pub end: u32,
     /// The number for its failure state, whose word is the live suffix of the word without its first symbol.
     pub failure: u32,
     /// The pattern that ends with the word.
@@ -116,9 +116,10 @@ impl<'p> Texts<'p> {
             → slice_index_or lists.new.items k d < length self.now.patterns.now) }
     {
         let mut whole = None;
-        for index in here.start..here.end {
+        let (start, end) = (here.start as usize, here.end as usize);
+        for index in start..end {
             let pattern = lists[index];
-            let after = classes_after[index - here.start];
+            let after = classes_after[index - start];
             if self.push_if_longer(lists, here.depth, class, pattern, after)? {
                 whole = whole.or(Some(pattern));
             }

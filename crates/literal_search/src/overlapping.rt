@@ -206,6 +206,15 @@ impl Overlapping {
         self.parts.numbers.put(array)
     }
 
+    /// Like [`Overlapping::prepare`], and frees the search while it writes, so that the two are not in memory at once.
+    pub fn into_prepared(self, array: &mut [u32]) -> Result<usize, ArrayTooShort>
+        ensures ok { IfOk result (WritesOverlapping self array.old array.new) }
+        ensures error { IfErr result (RefusesOverlapping self array.old) }
+        ensures as_before { OnErr result (array.new ≡ array.old) }
+    {
+        self.parts.numbers.put_all(array)
+    }
+
     /// Returns how many entries [`Overlapping::prepare`] writes. An array of this length or longer is long enough.
     #[tactic(auto, using(literal_occurrences::proofs::lemmas::LentTables::takes_listed))]
     pub fn prepared_len(&self) -> usize

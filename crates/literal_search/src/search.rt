@@ -231,6 +231,15 @@ impl Search {
         self.parts.numbers.put(array)
     }
 
+    /// Like [`Search::prepare`], and frees the search while it writes, so that the two are not in memory at once.
+    pub fn into_prepared(self, array: &mut [u32]) -> Result<usize, ArrayTooShort>
+        ensures ok { IfOk result (WritesPrepared self array.old array.new) }
+        ensures error { IfErr result (RefusesToPrepare self array.old) }
+        ensures as_before { OnErr result (array.new ≡ array.old) }
+    {
+        self.parts.numbers.put_all(array)
+    }
+
     /// The parts that a backward walk reads.
     pub(crate) fn backward(&self) -> Backward<'_>
         ensures safe { IsSafe result }

@@ -20,7 +20,7 @@ fn second() -> Option<Match> {
 fn filled(alloc: Global) -> Result<Vec<u32>, Fail> {
     let search = first_of(alloc, &WORDS)?;
     let mut array = vec![in alloc; 0; search.prepared_len()]?;
-    search.prepare(&mut array)?;
+    search.into_prepared(&mut array)?;
     Ok(array)
 }
 

@@ -8,7 +8,7 @@ use std::test::Fail;
 fn filled(alloc: Global) -> Result<Vec<u32>, Fail> {
     let search = Overlapping::new(alloc, false, [b"append".as_slice(), b"app", b"end"])?;
     let mut array = vec![in alloc; 0; search.prepared_len()]?;
-    search.prepare(&mut array)?;
+    search.into_prepared(&mut array)?;
     Ok(array)
 }
 

@@ -5,7 +5,7 @@ use Rattle.std.proofs.Common.{Err, IfErr, IfOk, Ok, Result}
 use Rattle.std.proofs.Common.{append-nil, append_assoc, length-append, refl, sym, ap, ◌∙◌, arith}
 use Rattle.std.proofs.Math.Seq.{drop-append_seam, take-append_seam}
 use Rattle.std.proofs.lemmas.List.{length-drop, length-map, length-take, take-append-drop}
-use Rattle.std.specs.List.{slice_range}
+use Rattle.std.specs.List.{slice_range, splice}
 use Rattle.literal_rows.specs.Inside.Classes.{AreClasses}
 use Rattle.literal_rows.specs.Inside.Packed.{unpacked}
 use Rattle.literal_rows.specs.Inside.Rows.{packed_classes}
@@ -22,6 +22,29 @@ pub part_at : (numbers prefix part back : List ℕ) (from to : ℕ) → numbers 
     → from ≡ length prefix → to ≡ from + length part → slice_range numbers from to ≡ part
 part_at numbers prefix part back from to is from_is to_is =
     grind (arith, common_steps, drop-append_seam, take-append_seam)
+
+-- numbers written from an index on, and then those before it, are all of them
+put_in_two : (old numbers : List ℕ) (from : ℕ) → from ≤ length numbers → length numbers ≤ length old
+    → splice (splice old from (from + length (drop from numbers)) (drop from numbers)) 0 (length (take from numbers))
+    (take from numbers) ≡ splice old 0 (length numbers) numbers
+put_in_two old numbers from inside fits =
+    let back = drop from numbers ++ drop (from + length (drop from numbers)) old in
+    let before : length (take from old) ≡ from = length-take from old ∙ omega (arith, inside, fits) in
+    let first : length (take from numbers) ≡ from = length-take from numbers ∙ omega (arith, inside) in
+    let long : from + length (drop from numbers) ≡ length numbers = omega (arith, length-drop from numbers, inside) in
+    let left : drop (length (take from numbers)) (take from old ++ back) ≡ back =
+    ap (λ n. drop n (take from old ++ back)) (first ∙ sym before) ∙ drop-append_seam (take from old) back in
+    ap (λ l. take from numbers ++ l) left
+    ∙ sym (append_assoc (take from numbers) (drop from numbers) (drop (from + length (drop from numbers)) old))
+    ∙ ap (λ l. l ++ drop (from + length (drop from numbers)) old) (take-append-drop from numbers)
+    ∙ ap (λ n. numbers ++ drop n old) long
+
+pub moved_on : (old new numbers left : List ℕ) (from : ℕ) → from ≤ length numbers → length numbers ≤ length old
+    → Puts from (drop from numbers) old new → left ≡ take from numbers
+    → splice new 0 (length left) left ≡ splice old 0 (length numbers) numbers
+moved_on old new numbers left from inside fits put is =
+    ap (λ l. splice new 0 (length l) l) is ∙ ap (λ l. splice l 0 (length (take from numbers)) (take from numbers)) put
+    ∙ put_in_two old numbers from inside fits
 
 module _ (version kind : ℕ) (classes : List ℕ) (width : ℕ) (patterns : List (List ℕ)) (rows starts ends : List ℕ)
   where
