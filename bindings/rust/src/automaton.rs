@@ -74,8 +74,9 @@ pub(crate) use sealed::Sealed;
 ///
 /// The calls that take a state have no meaning for one of another automaton, and may panic.
 pub trait Automaton: Sealed {
-    /// The state before the first byte. The first call builds the states, which take at most some 35 bytes for each
-    /// byte of the patterns.
+    /// The state before the first byte. The first call builds the states, which take at most some 17 bytes for each
+    /// byte of the patterns, and 32 for each pattern. The build takes about as much again for each pattern, and twice as
+    /// much for each byte.
     ///
     /// # Errors
     ///
@@ -236,7 +237,8 @@ pub trait Automaton: Sealed {
         self.own_prefilter()
     }
 
-    /// [`AhoCorasick::try_find`].
+    /// [`AhoCorasick::try_find`], except that an input that is done has no match, whatever the
+    /// [`StartKind`](crate::StartKind) is.
     ///
     /// ```
     /// use aho_corasick::automaton::Automaton;
@@ -247,6 +249,9 @@ pub trait Automaton: Sealed {
     /// # Ok::<(), aho_corasick::BuildError>(())
     /// ```
     fn try_find(&self, input: &Input<'_>) -> Result<Option<Match>, MatchError> {
+        if input.is_done() {
+            return Ok(None);
+        }
         self.searcher().try_find(input.clone())
     }
 
@@ -264,7 +269,8 @@ pub trait Automaton: Sealed {
         self.searcher().try_find_iter(input)
     }
 
-    /// [`AhoCorasick::try_find_overlapping`].
+    /// [`AhoCorasick::try_find_overlapping`], except that an input that is done has no match, whatever the
+    /// [`StartKind`](crate::StartKind) is.
     ///
     /// ```
     /// use aho_corasick::automaton::{Automaton, OverlappingState};
@@ -276,6 +282,10 @@ pub trait Automaton: Sealed {
     /// # Ok::<(), Box<dyn std::error::Error>>(())
     /// ```
     fn try_find_overlapping(&self, input: &Input<'_>, state: &mut OverlappingState) -> Result<(), MatchError> {
+        if input.is_done() {
+            *state = OverlappingState::start();
+            return Ok(());
+        }
         self.searcher().try_find_overlapping(input.clone(), state)
     }
 
