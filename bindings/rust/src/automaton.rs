@@ -682,4 +682,30 @@ macro_rules! automaton {
     };
 }
 
-pub(crate) use automaton;
+/// Declares the call of a builder that takes the patterns of an NFA.
+macro_rules! from_noncontiguous {
+    ($name:ident, $module:literal) => {
+        impl Builder {
+            /// The automaton for the patterns of an NFA, and with its settings: of this builder's settings, only the
+            /// [`StartKind`] counts.
+            ///
+            /// # Errors
+            ///
+            /// Like [`AhoCorasickBuilder::build`].
+            ///
+            /// ```
+            /// use aho_corasick::automaton::Automaton;
+            #[doc = concat!("use aho_corasick::{nfa::noncontiguous::NFA, ", $module, "::Builder};")]
+            ///
+            /// assert_eq!(Builder::new().build_from_noncontiguous(&NFA::new(["cat", "dog"])?)?.patterns_len(), 2);
+            /// # Ok::<(), aho_corasick::BuildError>(())
+            /// ```
+            pub fn build_from_noncontiguous(&self, nfa: &crate::nfa::noncontiguous::NFA) -> Result<$name, BuildError> {
+                let searcher = self.0.build_from(nfa.searcher())?;
+                Ok($name { searcher, prefilter: nfa.own_prefilter().cloned() })
+            }
+        }
+    };
+}
+
+pub(crate) use {automaton, from_noncontiguous};

@@ -229,7 +229,15 @@ impl AhoCorasickBuilder {
         }))
     }
 
-    /// The same with a prefilter for loops over states, if it has one.
+    /// A searcher for the patterns of another one, by its kind of match and its case.
+    pub(crate) fn build_from(&self, other: &AhoCorasick) -> Result<AhoCorasick, BuildError> {
+        let (pieces, ignore_case) = other.patterns();
+        let mut builder = self.clone();
+        builder.match_kind(other.match_kind()).ascii_case_insensitive(ignore_case);
+        builder.build((0..pieces.len() as u32).map(|it| pieces.get(it)))
+    }
+
+    /// A searcher with a prefilter for loops over states, if it has one.
     pub(crate) fn build_with_prefilter<I, P>(&self, patterns: I) -> Result<(AhoCorasick, Option<Prefilter>), BuildError>
     where
         I: IntoIterator<Item = P>,

@@ -211,6 +211,25 @@ fn prefilters_pass_over_no_match() {
 }
 
 #[test]
+fn automata_of_the_patterns_of_another_one() {
+    let mut builder = noncontiguous::NFA::builder();
+    builder.match_kind(MatchKind::LeftmostLongest).ascii_case_insensitive(true).prefilter(false);
+    let given = builder.build(["ab", "a", "abc"]).unwrap();
+    // (of the other settings only the start kind counts)
+    let (mut dfa, mut nfa) = (DFA::builder(), contiguous::NFA::builder());
+    dfa.match_kind(MatchKind::Standard).start_kind(StartKind::Anchored);
+    let dfa = dfa.build_from_noncontiguous(&given).unwrap();
+    let nfa = nfa.ascii_case_insensitive(false).build_from_noncontiguous(&given).unwrap();
+    assert!(dfa.start_state(Anchored::No).is_err() && nfa.start_state(Anchored::No).is_ok());
+    let input = Input::new("ABCD").anchored(Anchored::Yes);
+    for automaton in [&dfa as &dyn Automaton, &nfa] {
+        assert_eq!(automaton.match_kind(), MatchKind::LeftmostLongest);
+        assert_eq!(automaton.try_find(&input), Ok(Some(Match::must(2, 0..3))));
+        assert!(automaton.prefilter().is_none());
+    }
+}
+
+#[test]
 fn texts_with_the_same_open_suffix_lead_to_one_state() {
     let words = ["abc", "bd"];
     let (automaton, mut states) = (DFA::new(words).unwrap(), HashMap::new());
