@@ -168,6 +168,20 @@ fn occurrences_within_a_long_pattern() {
 }
 
 #[test]
+fn builds_ask_for_about_what_they_need() {
+    let _alone = ALONE.lock();
+    let alike = "ab".repeat(50);
+    for kind in [MatchKind::Standard, MatchKind::LeftmostFirst] {
+        for is_first in [true, false] {
+            let word = |it| if is_first { format!("{alike}{it}") } else { format!("{it}{alike}") };
+            let words: Vec<String> = (100..900).map(word).collect();
+            let searcher = refusing(usize::MAX, || AhoCorasick::builder().match_kind(kind).build(&words).unwrap());
+            assert!(LARGEST.load(Ordering::Relaxed) < searcher.memory_usage());
+        }
+    }
+}
+
+#[test]
 fn memory_usage_is_what_is_held() {
     let _alone = ALONE.lock();
     let words =
