@@ -74,9 +74,8 @@ pub(crate) use sealed::Sealed;
 ///
 /// The calls that take a state have no meaning for one of another automaton, and may panic.
 pub trait Automaton: Sealed {
-    /// The state before the first byte. The first call builds the states, which take at most some 17 bytes for each
-    /// byte of the patterns, and 32 for each pattern. The build takes about as much again for each pattern, and twice as
-    /// much for each byte.
+    /// The state before the first byte. The first call builds the states. They take at most some 17 bytes for each byte
+    /// of the patterns, and 32 for each pattern; during the build it is about three times as much.
     ///
     /// # Errors
     ///
