@@ -226,7 +226,7 @@ pub trait Automaton: Sealed {
     ///
     /// ```
     /// use aho_corasick::automaton::Automaton;
-    /// use aho_corasick::{dfa::DFA};
+    /// use aho_corasick::dfa::DFA;
     ///
     /// assert!(DFA::new(["cat"])?.prefilter().is_some());
     /// assert!(DFA::new(["cat", ""])?.prefilter().is_none());
@@ -310,7 +310,7 @@ pub trait Automaton: Sealed {
     ///
     /// ```
     /// use aho_corasick::automaton::Automaton;
-    /// use aho_corasick::{dfa::DFA};
+    /// use aho_corasick::dfa::DFA;
     ///
     /// let automaton = DFA::new(["cat", "dog"])?;
     /// assert_eq!(automaton.try_replace_all("a dog", &["dog", "cat"]).unwrap(), "a cat");
@@ -328,7 +328,7 @@ pub trait Automaton: Sealed {
     ///
     /// ```
     /// use aho_corasick::automaton::Automaton;
-    /// use aho_corasick::{dfa::DFA};
+    /// use aho_corasick::dfa::DFA;
     ///
     /// let automaton = DFA::new(["cat", "dog"])?;
     /// assert_eq!(automaton.try_replace_all_bytes(b"a dog", &["dog", "cat"]).unwrap(), b"a cat");
@@ -346,7 +346,7 @@ pub trait Automaton: Sealed {
     ///
     /// ```
     /// use aho_corasick::automaton::Automaton;
-    /// use aho_corasick::{dfa::DFA};
+    /// use aho_corasick::dfa::DFA;
     ///
     /// let automaton = DFA::new(["cat", "dog"])?;
     /// let mut text = String::new();
@@ -366,7 +366,7 @@ pub trait Automaton: Sealed {
     ///
     /// ```
     /// use aho_corasick::automaton::Automaton;
-    /// use aho_corasick::{dfa::DFA};
+    /// use aho_corasick::dfa::DFA;
     ///
     /// let automaton = DFA::new(["cat", "dog"])?;
     /// let mut bytes = Vec::new();
@@ -392,7 +392,7 @@ pub trait Automaton: Sealed {
     ///
     /// ```
     /// use aho_corasick::automaton::Automaton;
-    /// use aho_corasick::{dfa::DFA};
+    /// use aho_corasick::dfa::DFA;
     ///
     /// let automaton = DFA::new(["cat", "dog"])?;
     /// assert_eq!(automaton.try_stream_find_iter("dog, cat".as_bytes())?.count(), 2);
@@ -412,7 +412,7 @@ pub trait Automaton: Sealed {
     ///
     /// ```
     /// use aho_corasick::automaton::Automaton;
-    /// use aho_corasick::{dfa::DFA};
+    /// use aho_corasick::dfa::DFA;
     ///
     /// let automaton = DFA::new(["cat", "dog"])?;
     /// let mut out = Vec::new();
@@ -475,7 +475,7 @@ pub trait Automaton: Sealed {
     ///
     /// ```
     /// use aho_corasick::automaton::Automaton;
-    /// use aho_corasick::{dfa::DFA};
+    /// use aho_corasick::dfa::DFA;
     ///
     /// assert_eq!(DFA::new(["cat", "bird"])?.patterns_len(), 2);
     /// # Ok::<(), aho_corasick::BuildError>(())
@@ -505,7 +505,7 @@ pub trait Automaton: Sealed {
     ///
     /// ```
     /// use aho_corasick::automaton::Automaton;
-    /// use aho_corasick::{dfa::DFA};
+    /// use aho_corasick::dfa::DFA;
     ///
     /// assert_eq!(DFA::new(["cat", "bird"])?.min_pattern_len(), 3);
     /// # Ok::<(), aho_corasick::BuildError>(())
@@ -518,7 +518,7 @@ pub trait Automaton: Sealed {
     ///
     /// ```
     /// use aho_corasick::automaton::Automaton;
-    /// use aho_corasick::{dfa::DFA};
+    /// use aho_corasick::dfa::DFA;
     ///
     /// assert_eq!(DFA::new(["cat", "bird"])?.max_pattern_len(), 4);
     /// # Ok::<(), aho_corasick::BuildError>(())
@@ -531,7 +531,7 @@ pub trait Automaton: Sealed {
     ///
     /// ```
     /// use aho_corasick::automaton::Automaton;
-    /// use aho_corasick::{dfa::DFA};
+    /// use aho_corasick::dfa::DFA;
     ///
     /// assert!(DFA::new(["cat", "bird"])?.memory_usage() > 100);
     /// # Ok::<(), aho_corasick::BuildError>(())
