@@ -74,8 +74,8 @@ pub(crate) use sealed::Sealed;
 ///
 /// The calls that take a state have no meaning for one of another automaton, and may panic.
 pub trait Automaton: Sealed {
-    /// The state before the first byte. The first call builds the states, which take at most some 35 bytes for each
-    /// byte of the patterns.
+    /// The state before the first byte. The first call builds the states. They take at most some 17 bytes for each byte
+    /// of the patterns, and 32 for each pattern; during the build it is about three times as much.
     ///
     /// # Errors
     ///
@@ -226,7 +226,7 @@ pub trait Automaton: Sealed {
     ///
     /// ```
     /// use aho_corasick::automaton::Automaton;
-    /// use aho_corasick::{dfa::DFA};
+    /// use aho_corasick::dfa::DFA;
     ///
     /// assert!(DFA::new(["cat"])?.prefilter().is_some());
     /// assert!(DFA::new(["cat", ""])?.prefilter().is_none());
@@ -236,7 +236,8 @@ pub trait Automaton: Sealed {
         self.own_prefilter()
     }
 
-    /// [`AhoCorasick::try_find`].
+    /// [`AhoCorasick::try_find`], except that an input that is done has no match, whatever the
+    /// [`StartKind`](crate::StartKind) is.
     ///
     /// ```
     /// use aho_corasick::automaton::Automaton;
@@ -247,6 +248,9 @@ pub trait Automaton: Sealed {
     /// # Ok::<(), aho_corasick::BuildError>(())
     /// ```
     fn try_find(&self, input: &Input<'_>) -> Result<Option<Match>, MatchError> {
+        if input.is_done() {
+            return Ok(None);
+        }
         self.searcher().try_find(input.clone())
     }
 
@@ -264,7 +268,8 @@ pub trait Automaton: Sealed {
         self.searcher().try_find_iter(input)
     }
 
-    /// [`AhoCorasick::try_find_overlapping`].
+    /// [`AhoCorasick::try_find_overlapping`], except that an input that is done has no match, whatever the
+    /// [`StartKind`](crate::StartKind) is.
     ///
     /// ```
     /// use aho_corasick::automaton::{Automaton, OverlappingState};
@@ -276,6 +281,10 @@ pub trait Automaton: Sealed {
     /// # Ok::<(), Box<dyn std::error::Error>>(())
     /// ```
     fn try_find_overlapping(&self, input: &Input<'_>, state: &mut OverlappingState) -> Result<(), MatchError> {
+        if input.is_done() {
+            *state = OverlappingState::start();
+            return Ok(());
+        }
         self.searcher().try_find_overlapping(input.clone(), state)
     }
 
@@ -301,7 +310,7 @@ pub trait Automaton: Sealed {
     ///
     /// ```
     /// use aho_corasick::automaton::Automaton;
-    /// use aho_corasick::{dfa::DFA};
+    /// use aho_corasick::dfa::DFA;
     ///
     /// let automaton = DFA::new(["cat", "dog"])?;
     /// assert_eq!(automaton.try_replace_all("a dog", &["dog", "cat"]).unwrap(), "a cat");
@@ -319,7 +328,7 @@ pub trait Automaton: Sealed {
     ///
     /// ```
     /// use aho_corasick::automaton::Automaton;
-    /// use aho_corasick::{dfa::DFA};
+    /// use aho_corasick::dfa::DFA;
     ///
     /// let automaton = DFA::new(["cat", "dog"])?;
     /// assert_eq!(automaton.try_replace_all_bytes(b"a dog", &["dog", "cat"]).unwrap(), b"a cat");
@@ -337,7 +346,7 @@ pub trait Automaton: Sealed {
     ///
     /// ```
     /// use aho_corasick::automaton::Automaton;
-    /// use aho_corasick::{dfa::DFA};
+    /// use aho_corasick::dfa::DFA;
     ///
     /// let automaton = DFA::new(["cat", "dog"])?;
     /// let mut text = String::new();
@@ -357,7 +366,7 @@ pub trait Automaton: Sealed {
     ///
     /// ```
     /// use aho_corasick::automaton::Automaton;
-    /// use aho_corasick::{dfa::DFA};
+    /// use aho_corasick::dfa::DFA;
     ///
     /// let automaton = DFA::new(["cat", "dog"])?;
     /// let mut bytes = Vec::new();
@@ -383,7 +392,7 @@ pub trait Automaton: Sealed {
     ///
     /// ```
     /// use aho_corasick::automaton::Automaton;
-    /// use aho_corasick::{dfa::DFA};
+    /// use aho_corasick::dfa::DFA;
     ///
     /// let automaton = DFA::new(["cat", "dog"])?;
     /// assert_eq!(automaton.try_stream_find_iter("dog, cat".as_bytes())?.count(), 2);
@@ -403,7 +412,7 @@ pub trait Automaton: Sealed {
     ///
     /// ```
     /// use aho_corasick::automaton::Automaton;
-    /// use aho_corasick::{dfa::DFA};
+    /// use aho_corasick::dfa::DFA;
     ///
     /// let automaton = DFA::new(["cat", "dog"])?;
     /// let mut out = Vec::new();
@@ -466,7 +475,7 @@ pub trait Automaton: Sealed {
     ///
     /// ```
     /// use aho_corasick::automaton::Automaton;
-    /// use aho_corasick::{dfa::DFA};
+    /// use aho_corasick::dfa::DFA;
     ///
     /// assert_eq!(DFA::new(["cat", "bird"])?.patterns_len(), 2);
     /// # Ok::<(), aho_corasick::BuildError>(())
@@ -496,7 +505,7 @@ pub trait Automaton: Sealed {
     ///
     /// ```
     /// use aho_corasick::automaton::Automaton;
-    /// use aho_corasick::{dfa::DFA};
+    /// use aho_corasick::dfa::DFA;
     ///
     /// assert_eq!(DFA::new(["cat", "bird"])?.min_pattern_len(), 3);
     /// # Ok::<(), aho_corasick::BuildError>(())
@@ -509,7 +518,7 @@ pub trait Automaton: Sealed {
     ///
     /// ```
     /// use aho_corasick::automaton::Automaton;
-    /// use aho_corasick::{dfa::DFA};
+    /// use aho_corasick::dfa::DFA;
     ///
     /// assert_eq!(DFA::new(["cat", "bird"])?.max_pattern_len(), 4);
     /// # Ok::<(), aho_corasick::BuildError>(())
@@ -522,7 +531,7 @@ pub trait Automaton: Sealed {
     ///
     /// ```
     /// use aho_corasick::automaton::Automaton;
-    /// use aho_corasick::{dfa::DFA};
+    /// use aho_corasick::dfa::DFA;
     ///
     /// assert!(DFA::new(["cat", "bird"])?.memory_usage() > 100);
     /// # Ok::<(), aho_corasick::BuildError>(())
@@ -672,4 +681,30 @@ macro_rules! automaton {
     };
 }
 
-pub(crate) use automaton;
+/// Declares the call of a builder that takes the patterns of an NFA.
+macro_rules! from_noncontiguous {
+    ($name:ident, $module:literal) => {
+        impl Builder {
+            /// The automaton for the patterns of an NFA, and with its settings: of this builder's settings, only the
+            /// [`StartKind`] counts.
+            ///
+            /// # Errors
+            ///
+            /// Like [`AhoCorasickBuilder::build`].
+            ///
+            /// ```
+            /// use aho_corasick::automaton::Automaton;
+            #[doc = concat!("use aho_corasick::{nfa::noncontiguous::NFA, ", $module, "::Builder};")]
+            ///
+            /// assert_eq!(Builder::new().build_from_noncontiguous(&NFA::new(["cat", "dog"])?)?.patterns_len(), 2);
+            /// # Ok::<(), aho_corasick::BuildError>(())
+            /// ```
+            pub fn build_from_noncontiguous(&self, nfa: &crate::nfa::noncontiguous::NFA) -> Result<$name, BuildError> {
+                let searcher = self.0.build_from(nfa.searcher())?;
+                Ok($name { searcher, prefilter: nfa.own_prefilter().cloned() })
+            }
+        }
+    };
+}
+
+pub(crate) use {automaton, from_noncontiguous};

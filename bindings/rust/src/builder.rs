@@ -156,11 +156,13 @@ impl AhoCorasickBuilder {
     }
 
     /// Sets whether [`AhoCorasickBuilder::build`] also builds the second array, which searches for every occurrence
-    /// need. Otherwise the first of these searches builds it, which takes about as much time as `build`; if memory is
-    /// refused, it panics, or returns a [`MatchError`](crate::MatchError). (The original has no such setting.)
+    /// need. Otherwise the first of these searches builds it, which often takes about as much time as `build`; if memory
+    /// is refused, it panics, or returns a [`MatchError`](crate::MatchError). (The original has no such setting.)
     ///
-    /// The second array has all patterns. The first one lacks those in which another one ends before the last byte. So
-    /// the second one is larger where there are many of these, and otherwise it is about as large as the first one.
+    /// The second array has all patterns. The first one lacks those in which another one ends before the last byte. For
+    /// lists with many of these, the second one is larger. It has a row for each different prefix of the patterns, and the
+    /// first one for each different suffix. So it is also larger if many patterns end alike, and smaller if they begin
+    /// alike. Otherwise it is about as large.
     ///
     /// By the leftmost kinds, and with [`StartKind::Anchored`], there are no such searches, and this changes nothing.
     ///
@@ -229,7 +231,15 @@ impl AhoCorasickBuilder {
         }))
     }
 
-    /// The same with a prefilter for loops over states, if it has one.
+    /// A searcher for the patterns of another one, by its kind of match and its case.
+    pub(crate) fn build_from(&self, other: &AhoCorasick) -> Result<AhoCorasick, BuildError> {
+        let (pieces, ignore_case) = other.patterns();
+        let mut builder = self.clone();
+        builder.match_kind(other.match_kind()).ascii_case_insensitive(ignore_case);
+        builder.build((0..pieces.len() as u32).map(|it| pieces.get(it)))
+    }
+
+    /// A searcher with a prefilter for loops over states, if it has one.
     pub(crate) fn build_with_prefilter<I, P>(&self, patterns: I) -> Result<(AhoCorasick, Option<Prefilter>), BuildError>
     where
         I: IntoIterator<Item = P>,

@@ -1,5 +1,5 @@
 //! The name of the original's DFA.
-use crate::automaton::{automaton, Automaton, Prefilter, Sealed};
+use crate::automaton::{automaton, from_noncontiguous, Automaton, Prefilter, Sealed};
 use crate::{AhoCorasick, AhoCorasickBuilder, BuildError, MatchKind, StartKind};
 
 automaton!(
@@ -10,3 +10,4 @@ automaton!(
     prefilter: bool = "false",
     byte_classes: bool = "false"
 );
+from_noncontiguous!(DFA, "dfa");

@@ -3,7 +3,7 @@ use crate::declared::{LEFTMOST_FIRST, LEFTMOST_LONGEST};
 use crate::error::{BuildError, Cause};
 use crate::library::{Prepared, Reached};
 use crate::pieces::{copied, Pieces};
-use crate::sorted::{count_prefixes, keep_matching, sorted};
+use crate::sorted::{count_suffixes, keep_matching, sorted};
 use crate::standard::{likely_late, LONGEST_KNOWN};
 use crate::{Match, MatchKind, PatternID, Span};
 use alloc::vec::Vec;
@@ -39,14 +39,14 @@ impl Leftmost {
             MatchKind::LeftmostFirst => LEFTMOST_FIRST,
             MatchKind::LeftmostLongest => LEFTMOST_LONGEST,
         };
-        let (mut numbers, prefixes) = pieces.folded(ignore_case, |pieces| {
+        let (mut numbers, suffixes) = pieces.folded(ignore_case, |pieces| {
             let mut numbers = sorted(pieces)?;
             keep_matching(kind, false, pieces, &mut numbers)?;
-            let prefixes = count_prefixes(pieces, &numbers);
-            Ok((numbers, prefixes))
+            let suffixes = count_suffixes(pieces, &numbers)?;
+            Ok((numbers, suffixes))
         })?;
         numbers.sort_unstable();
-        let mut leftmost = Leftmost::of(number, ignore_case, pieces, numbers, prefixes)?;
+        let mut leftmost = Leftmost::of(number, ignore_case, pieces, numbers, suffixes)?;
         leftmost.reads_on = leftmost.longest > LONG && !leftmost.are_late(ignore_case, pieces)?;
         Ok(leftmost)
     }
@@ -54,21 +54,21 @@ impl Leftmost {
     /// The search for the leftmost matches of the late patterns, which are the standard ones. With a long pattern the
     /// array tells whether the likely ones are late.
     fn standard(ignore_case: bool, pieces: &Pieces) -> Result<Leftmost, BuildError> {
-        let (numbers, prefixes) = pieces.folded(ignore_case, |pieces| {
+        let (numbers, suffixes) = pieces.folded(ignore_case, |pieces| {
             let numbers = likely_late(pieces)?;
-            let prefixes = count_prefixes(pieces, &numbers);
-            Ok((numbers, prefixes))
+            let suffixes = count_suffixes(pieces, &numbers)?;
+            Ok((numbers, suffixes))
         })?;
         if pieces.longest <= LONGEST_KNOWN {
-            return Leftmost::of(LEFTMOST_FIRST, ignore_case, pieces, numbers, prefixes);
+            return Leftmost::of(LEFTMOST_FIRST, ignore_case, pieces, numbers, suffixes);
         }
-        let likely = Leftmost::of(LEFTMOST_FIRST, ignore_case, pieces, copied(&numbers)?, prefixes)?;
+        let likely = Leftmost::of(LEFTMOST_FIRST, ignore_case, pieces, copied(&numbers)?, suffixes)?;
         let (mut late, count) = (numbers, likely.numbers.len());
         late.retain(|it| likely.is_late(pieces.get(*it)));
         if late.len() == if count > 0 { count } else { pieces.len() } {
             return Ok(likely);
         }
-        Leftmost::of(LEFTMOST_FIRST, ignore_case, pieces, late, prefixes)
+        Leftmost::of(LEFTMOST_FIRST, ignore_case, pieces, late, suffixes)
     }
 
     /// The search for standard matches, where this one is for those of a leftmost kind; or none, if these are the same.
@@ -86,20 +86,20 @@ impl Leftmost {
         Ok(is_same && likely.iter().all(|it| self.is_late(pieces.get(*it))))
     }
 
-    /// The search for some of the patterns, which have so many different prefixes.
+    /// The search for some of the patterns, which have so many different suffixes.
     fn of(
         kind: u32,
         ignore_case: bool,
         pieces: &Pieces,
         numbers: Vec<u32>,
-        prefixes: usize,
+        suffixes: usize,
     ) -> Result<Leftmost, BuildError> {
         if numbers.len() == pieces.len() {
-            let prepared = Prepared::leftmost(kind, ignore_case, pieces, prefixes)?;
+            let prepared = Prepared::leftmost(kind, ignore_case, pieces, suffixes)?;
             return Ok(Leftmost { prepared, numbers: Vec::new(), longest: pieces.longest, reads_on: false });
         }
         let some = pieces.of(&numbers)?;
-        let prepared = Prepared::leftmost(kind, ignore_case, &some, prefixes)?;
+        let prepared = Prepared::leftmost(kind, ignore_case, &some, suffixes)?;
         Ok(Leftmost { prepared, numbers, longest: some.longest, reads_on: false })
     }
 

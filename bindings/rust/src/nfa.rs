@@ -2,7 +2,7 @@
 
 pub mod contiguous {
     //! The name of the NFA in one array.
-    use crate::automaton::{automaton, Automaton, Prefilter, Sealed};
+    use crate::automaton::{automaton, from_noncontiguous, Automaton, Prefilter, Sealed};
     use crate::{AhoCorasick, AhoCorasickBuilder, BuildError, MatchKind, StartKind};
 
     automaton!(
@@ -13,6 +13,7 @@ pub mod contiguous {
         dense_depth: usize = "3",
         byte_classes: bool = "false"
     );
+    from_noncontiguous!(NFA, "nfa::contiguous");
 }
 
 pub mod noncontiguous {

@@ -115,8 +115,8 @@ impl AhoCorasick {
     }
 
     /// A builder, which sets the kind of match, and whether to ignore ASCII case. With [`MatchKind::Standard`], the
-    /// default, the first search for every occurrence builds a second array: it takes about as much time as the build,
-    /// and at least about as much memory. [`AhoCorasickBuilder::overlapping`] builds that array at once.
+    /// default, the first search for every occurrence builds a second array. It often takes about as much time and
+    /// memory as the build. [`AhoCorasickBuilder::overlapping`] builds that array at once, and says when it takes more.
     ///
     /// ```
     /// use aho_corasick::{AhoCorasick, Match, MatchKind};

@@ -33,8 +33,8 @@ impl Anchored {
 }
 
 /// Which searches a searcher makes. A search that the value leaves out returns a [`MatchError`](crate::MatchError), or
-/// panics. For anchored searches the searcher has a trie of the patterns, which takes at most some 60 bytes for each
-/// pattern, and as many as it has.
+/// panics. For anchored searches the searcher has a trie of the patterns, which takes at most some 110 bytes for each
+/// pattern, and two bytes for each byte of the patterns.
 ///
 /// ```
 /// use aho_corasick::{AhoCorasick, Anchored, Input, StartKind};

@@ -3,6 +3,7 @@ use crate::error::Cause;
 use crate::pieces::{with_room, Pieces};
 use crate::MatchKind;
 use alloc::vec::Vec;
+use core::cmp::Ordering;
 
 /// The numbers of all patterns, in the order of the patterns, and equal ones in the order of numbers.
 pub fn sorted(pieces: &Pieces) -> Result<Vec<u32>, Cause> {
@@ -57,12 +58,46 @@ pub fn keep_matching(kind: MatchKind, with_equal: bool, pieces: &Pieces, sorted:
 
 /// How many different prefixes sorted patterns have, with the empty one.
 pub fn count_prefixes(pieces: &Pieces, sorted: &[u32]) -> usize {
-    let mut before: &[u8] = &[];
-    let own = sorted.iter().map(|number| {
-        let pattern = pieces.get(*number);
-        let shared = before.iter().zip(pattern).take_while(|(one, other)| one == other).count();
-        before = pattern;
-        pattern.len() - shared
+    count_beginnings(sorted.iter().map(|it| pieces.get(*it).iter()))
+}
+
+/// How many different suffixes some patterns have, with the empty one.
+pub fn count_suffixes(pieces: &Pieces, numbers: &[u32]) -> Result<usize, Cause> {
+    // (the last eight bytes as a number decide most comparisons)
+    let mut keyed = with_room(numbers.len())?;
+    keyed.extend(numbers.iter().map(|it| (tail(pieces.get(*it)), *it)));
+    keyed.sort_unstable_by(|(tail, number), (other_tail, other)| {
+        tail.cmp(other_tail).then_with(|| backwards(pieces.get(*number), pieces.get(*other)))
+    });
+    Ok(count_beginnings(keyed.iter().map(|(_, number)| pieces.get(*number).iter().rev())))
+}
+
+/// The last eight bytes of a text as a number, the last one first.
+fn tail(text: &[u8]) -> u64 {
+    let mut bytes = [0; 8];
+    let len = text.len().min(8);
+    bytes[8 - len..].copy_from_slice(&text[text.len() - len..]);
+    u64::from_le_bytes(bytes)
+}
+
+/// The order of two texts that are read from their ends.
+fn backwards(one: &[u8], other: &[u8]) -> Ordering {
+    let (mut one, mut other) = (one, other);
+    while one.len() > 8 && other.len() > 8 && tail(one) == tail(other) {
+        (one, other) = (&one[..one.len() - 8], &other[..other.len() - 8]);
+    }
+    // (a shorter text is read with zeros before it)
+    (tail(one), one.len()).cmp(&(tail(other), other.len()))
+}
+
+/// How many different beginnings sorted texts have, with the empty one.
+fn count_beginnings<'p, T: ExactSizeIterator<Item = &'p u8> + Clone>(texts: impl Iterator<Item = T>) -> usize {
+    let mut before: Option<T> = None;
+    let own = texts.map(|text| {
+        let equal = |before: T| before.zip(text.clone()).take_while(|(one, other)| one == other).count();
+        let shared = before.take().map_or(0, equal);
+        before = Some(text.clone());
+        text.len() - shared
     });
     1 + own.sum::<usize>()
 }
@@ -72,10 +107,16 @@ mod tests {
     use super::*;
 
     #[test]
-    fn prefixes_are_counted_once() {
-        for (patterns, count) in [(&[][..], 1), (&["", "b", "abc", "ab", "abd", "abc", "ba"], 7)] {
+    fn prefixes_and_suffixes_are_counted_once() {
+        for (patterns, prefixes, suffixes) in [
+            (&[][..], 1, 1),
+            (&["", "b", "abc", "ab", "abd", "abc", "ba"], 7, 11),
+            (&["a 12345678", "b 12345678", "\0", "8", "\08", "78"], 26, 14),
+        ] {
             let pieces = Pieces::new(patterns).unwrap();
-            assert_eq!(count_prefixes(&pieces, &sorted(&pieces).unwrap()), count, "{patterns:?}");
+            let numbers = sorted(&pieces).unwrap();
+            assert_eq!(count_prefixes(&pieces, &numbers), prefixes, "{patterns:?}");
+            assert_eq!(count_suffixes(&pieces, &numbers), Ok(suffixes), "{patterns:?}");
         }
     }
 

@@ -19,16 +19,15 @@ pub const LONGEST_KNOWN: usize = 64;
 pub fn likely_late(pieces: &Pieces) -> Result<Vec<u32>, Cause> {
     let mut numbers = sorted(pieces)?;
     keep_matching(MatchKind::Standard, false, pieces, &mut numbers)?;
-    let is_late = Known::new(pieces, &numbers)?.are_late()?;
-    let mut late = is_late.iter();
-    numbers.retain(|_| late.next() == Some(&true));
+    let known = Known::new(pieces, &numbers)?;
+    numbers.retain(|it| known.is_late(pieces.get(*it)));
     Ok(numbers)
 }
 
-/// Sorted patterns, none of which begins with another one.
+/// Sorted patterns of at most 64 bytes, none of which begins with another one.
 struct Known<'p> {
     pieces: &'p Pieces,
-    sorted: &'p [u32],
+    sorted: Vec<u32>,
     /// The head of each.
     heads: Vec<u64>,
     /// How many bytes of each pattern are hashed.
@@ -38,15 +37,17 @@ struct Known<'p> {
 }
 
 impl<'p> Known<'p> {
-    fn new(pieces: &'p Pieces, sorted: &'p [u32]) -> Result<Known<'p>, Cause> {
+    fn new(pieces: &'p Pieces, numbers: &[u32]) -> Result<Known<'p>, Cause> {
+        let mut sorted = with_room(numbers.len())?;
+        sorted.extend(numbers.iter().filter(|it| pieces.len_of(**it) <= LONGEST_KNOWN));
         let words = (sorted.len() / 4).next_power_of_two().clamp(4, 1 << 16);
         let mut hashes = with_room(words)?;
         hashes.resize(words, 0);
         let mut heads = with_room(sorted.len())?;
         heads.extend(sorted.iter().map(|it| head(pieces.get(*it))));
         let mut known = Known { pieces, sorted, heads, width: pieces.shortest.min(4), hashes };
-        for number in sorted {
-            let (word, bit) = known.place(pieces.get(*number));
+        for index in 0..known.sorted.len() {
+            let (word, bit) = known.place(pieces.get(known.sorted[index]));
             known.hashes[word] |= bit;
         }
         Ok(known)
@@ -60,17 +61,12 @@ impl<'p> Known<'p> {
         (hash / 64 % self.hashes.len(), 1 << (hash % 64))
     }
 
-    fn are_late(&self) -> Result<Vec<bool>, Cause> {
-        let mut are_late = with_room(self.sorted.len())?;
-        are_late.extend(self.sorted.iter().map(|it| {
-            let pattern = self.pieces.get(*it);
-            let early = &pattern[..pattern.len() - 1];
-            (1..early.len()).all(|start| !self.begins(&early[start..]))
-        }));
-        Ok(are_late)
+    fn is_late(&self, pattern: &[u8]) -> bool {
+        let early = &pattern[..pattern.len() - 1];
+        (1..early.len()).all(|start| !self.begins(&early[start..]))
     }
 
-    /// Whether a text begins with a pattern of at most 64 bytes.
+    /// Whether a text begins with one of the patterns.
     #[inline]
     fn begins(&self, text: &[u8]) -> bool {
         if text.len() < self.width {

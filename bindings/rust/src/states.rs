@@ -6,8 +6,8 @@
 //! same start is preferred, but no later start is. The other nodes get their links from their parents' links, as in any
 //! Aho-Corasick automaton, so the links of all nodes follow this rule.
 use crate::error::Cause;
-use crate::pieces::{push, with_room, Pieces};
-use crate::sorted::{keep_matching, sorted};
+use crate::pieces::{with_room, Pieces};
+use crate::sorted::{count_prefixes, keep_matching, sorted};
 use crate::{Anchored, Input, Match, MatchKind, PatternID};
 use alloc::vec::Vec;
 use core::fmt;
@@ -18,6 +18,8 @@ use core::ops::Range;
 const DEAD: u32 = 0;
 /// The node before the first byte.
 const ROOT: u32 = 1;
+/// The ending of nodes where no pattern ends.
+const NONE: u32 = 0;
 
 /// Nodes are numbered in the order of their depths, so that the children of one follow one another. Each has a state of
 /// anchored searches too, except for the dead one.
@@ -25,6 +27,7 @@ pub struct States {
     ignore_case: bool,
     is_standard: bool,
     nodes: Vec<Node>,
+    endings: Vec<Ending>,
     /// The byte that leads to each node from its parent.
     labels: Vec<u8>,
     /// The patterns by their numbers, ordered as bytes.
@@ -37,12 +40,23 @@ struct Node {
     children: (u32, u32),
     /// The longest proper suffix that is a node, and with which a match may begin.
     failure: u32,
-    /// The first node of the chain of failures, from this one on, where a pattern ends. Dead if there is none.
+    /// The ending of the first node of the chain of failures, from this one on, where a pattern ends.
     ending: u32,
+}
+
+/// A node where a pattern ends. The endings of a node are a chain, in the order of failures.
+struct Ending {
+    node: u32,
     /// The patterns that are the bytes of the node.
     own: (u32, u32),
     /// How many patterns end here in an unanchored search.
     count: u32,
+    /// The next ending of the chain.
+    next: u32,
+    /// The next or a later ending of the chain. A search that jumps where it can takes logarithmic time.
+    jump: u32,
+    /// How many endings follow in the chain.
+    depth: u32,
 }
 
 /// Sorted patterns that have the bytes of a node in common.
@@ -60,20 +74,24 @@ impl States {
             if !is_standard {
                 keep_matching(kind, true, pieces, &mut numbers)?;
             }
-            let (nodes, labels, first) = (Vec::new(), Vec::new(), Vec::new());
-            let mut states = States { ignore_case, is_standard, nodes, labels, numbers, first };
-            states.grow(pieces)?;
+            let count = count_prefixes(pieces, &numbers) + 1;
+            if count > PatternID::LIMIT / 2 {
+                return Err(Cause::TooLarge);
+            }
+            let (nodes, labels, mut endings) = (with_room(count)?, with_room(count)?, with_room(numbers.len() + 1)?);
+            endings.push(Ending { node: DEAD, own: (0, 0), count: 0, next: NONE, jump: NONE, depth: 0 });
+            let mut states = States { ignore_case, is_standard, nodes, endings, labels, numbers, first: Vec::new() };
+            states.grow(pieces, count)?;
             Ok(states)
         })
     }
 
-    /// Makes a node of each group, which adds the groups of its children.
-    fn grow(&mut self, pieces: &Pieces) -> Result<(), Cause> {
-        let mut groups = with_room(2)?;
+    /// Makes so many nodes, each of a group, which adds the groups of its children.
+    fn grow(&mut self, pieces: &Pieces, count: usize) -> Result<(), Cause> {
+        let mut groups = with_room(count)?;
         groups.push(Group { patterns: 0..0, depth: 0, parent: DEAD });
         groups.push(Group { patterns: 0..self.numbers.len(), depth: 0, parent: DEAD });
-        push(&mut self.labels, 0)?;
-        push(&mut self.labels, 0)?;
+        self.labels.extend([0, 0]);
         while let Some(Group { patterns, depth, parent }) = groups.get(self.nodes.len()) {
             let (mut patterns, depth, parent) = (patterns.clone(), *depth, *parent);
             let own = self.numbers[patterns.clone()].iter().take_while(|it| pieces.len_of(**it) == depth).count();
@@ -83,13 +101,10 @@ impl States {
                 let label = |number: &u32| pieces.get(*number)[depth];
                 let byte = label(&self.numbers[patterns.start]);
                 let count = self.numbers[patterns.clone()].partition_point(|it| label(it) == byte);
-                push(&mut self.labels, byte)?;
+                self.labels.push(byte);
                 let patterns_of_child = patterns.start..patterns.start + count;
-                push(&mut groups, Group { patterns: patterns_of_child, depth: depth + 1, parent: node as u32 })?;
+                groups.push(Group { patterns: patterns_of_child, depth: depth + 1, parent: node as u32 });
                 patterns.start += count;
-            }
-            if groups.len() > PatternID::LIMIT / 2 {
-                return Err(Cause::TooLarge);
             }
             self.add(parent, (own.start as u32, own.end as u32), (children as u32, groups.len() as u32))?;
         }
@@ -104,13 +119,24 @@ impl States {
             ROOT => self.stays(),
             _ => self.step(self.nodes[parent as usize].failure, self.labels[node as usize]),
         };
-        let (ending, count) = self.nodes.get(failure as usize).map_or((DEAD, 0), |it| (it.ending, it.count));
-        let ending = if is_own { node } else { ending };
-        push(&mut self.nodes, Node { children, failure, ending, own, count: count + own.1 - own.0 })?;
+        let next = self.nodes.get(failure as usize).map_or(NONE, |it| it.ending);
+        let ending = if is_own { self.add_ending(node, own, next) } else { next };
+        self.nodes.push(Node { children, failure, ending });
         if node == ROOT {
             self.note_first(children)?;
         }
         Ok(())
+    }
+
+    /// Adds the ending of the next node, at the head of a chain.
+    fn add_ending(&mut self, node: u32, own: (u32, u32), next: u32) -> u32 {
+        let Ending { count, jump, depth, .. } = self.endings[next as usize];
+        let passed = |from: u32, to: u32| self.endings[from as usize].depth - self.endings[to as usize].depth;
+        // (two jumps of one length become one jump)
+        let farther = self.endings[jump as usize].jump;
+        let jump = if passed(next, jump) == passed(jump, farther) { farther } else { next };
+        self.endings.push(Ending { node, own, count: count + own.1 - own.0, next, jump, depth: depth + 1 });
+        self.endings.len() as u32 - 1
     }
 
     /// Notes where the root leads by each byte.
@@ -126,8 +152,7 @@ impl States {
     /// Where an unanchored search goes on if no pattern begins with the byte that was read: where the search begins. But
     /// if an empty pattern has matched there, no leftmost match may begin later.
     fn stays(&self) -> u32 {
-        let own = self.nodes[ROOT as usize].own;
-        if own.0 < own.1 && !self.is_standard {
+        if self.nodes[ROOT as usize].ending != NONE && !self.is_standard {
             DEAD
         } else {
             ROOT
@@ -205,8 +230,19 @@ impl States {
     #[inline]
     pub fn match_len(&self, state: u32) -> usize {
         let (node, is_anchored) = self.node(state);
-        let Node { own, count, .. } = &self.nodes[node as usize];
-        (if is_anchored { own.1 - own.0 } else { *count }) as usize
+        let ending = self.ending(node);
+        let len = match is_anchored {
+            false => ending.count,
+            true if ending.node == node => ending.own.1 - ending.own.0,
+            true => 0,
+        };
+        len as usize
+    }
+
+    /// The first ending of the chain of a node.
+    #[inline]
+    fn ending(&self, node: u32) -> &Ending {
+        &self.endings[self.nodes[node as usize].ending as usize]
     }
 
     /// The pattern with an index among those that end in a state: the longest first, and of equal ones the first in the
@@ -217,20 +253,20 @@ impl States {
     /// If there is none.
     pub fn pattern(&self, state: u32, index: usize) -> PatternID {
         assert!(index < self.match_len(state), "fewer patterns end in the state");
-        let (mut node, mut index) = (&self.nodes[self.node(state).0 as usize], index);
-        loop {
-            let own = &self.numbers[range(node.own)];
-            match own.get(index) {
-                Some(number) => return PatternID::of(*number as usize),
-                None => index -= own.len(),
-            }
-            let failure = if own.is_empty() { node.ending } else { self.nodes[node.failure as usize].ending };
-            node = &self.nodes[failure as usize];
+        let mut ending = self.ending(self.node(state).0);
+        // (an ending that has the pattern, or a later one of the chain, has at least so many)
+        let least = ending.count - index as u32;
+        while self.endings[ending.next as usize].count >= least {
+            let jump = &self.endings[ending.jump as usize];
+            ending = if jump.count >= least { jump } else { &self.endings[ending.next as usize] };
         }
+        let own = &self.numbers[range(ending.own)];
+        PatternID::of(own[(ending.count - least) as usize] as usize)
     }
 
     pub fn memory_usage(&self) -> usize {
         self.nodes.capacity() * size_of::<Node>()
+            + self.endings.capacity() * size_of::<Ending>()
             + self.labels.capacity()
             + (self.numbers.capacity() + self.first.capacity()) * size_of::<u32>()
     }

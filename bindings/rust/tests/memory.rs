@@ -168,6 +168,29 @@ fn occurrences_within_a_long_pattern() {
 }
 
 #[test]
+fn builds_ask_for_about_what_they_need() {
+    let _alone = ALONE.lock();
+    let alike = "ab".repeat(50);
+    for kind in [MatchKind::Standard, MatchKind::LeftmostFirst] {
+        for is_first in [true, false] {
+            let word = |it| if is_first { format!("{alike}{it}") } else { format!("{it}{alike}") };
+            let words: Vec<String> = (100..900).map(word).collect();
+            let searcher = refusing(usize::MAX, || AhoCorasick::builder().match_kind(kind).build(&words).unwrap());
+            assert!(LARGEST.load(Ordering::Relaxed) < searcher.memory_usage());
+        }
+    }
+}
+
+#[test]
+fn streams_keep_no_more_than_they_need() {
+    let _alone = ALONE.lock();
+    let (longest, text) = (1000, "ab".repeat(1 << 18));
+    let searcher = AhoCorasick::new(["ab".repeat(longest / 2 - 1) + "cc", "abx".to_string()]).unwrap();
+    assert_eq!(refusing(usize::MAX, || searcher.stream_find_iter(text.as_bytes()).count()), 0);
+    assert!((1 << 16..(1 << 16) + 2 * longest).contains(&LARGEST.load(Ordering::Relaxed)));
+}
+
+#[test]
 fn memory_usage_is_what_is_held() {
     let _alone = ALONE.lock();
     let words =

@@ -1,5 +1,5 @@
 //! Loops over the states of an automaton, beside the searches.
-use aho_corasick::automaton::{Automaton, Candidate, StateID};
+use aho_corasick::automaton::{Automaton, Candidate, OverlappingState, StateID};
 use aho_corasick::dfa::DFA;
 use aho_corasick::nfa::{contiguous, noncontiguous};
 use aho_corasick::{AhoCorasick, Anchored, Input, Match, MatchError, MatchKind, PatternID, Span, StartKind};
@@ -167,7 +167,7 @@ fn loops_find_what_searches_find() {
         for anchored in [Anchored::No, Anchored::Yes] {
             let (input, case) = (Input::new(&text).anchored(anchored), (kind, anchored, ignore_case, &words, &text));
             assert_eq!(first_match(&*automaton, anchored, &text), searcher.find(input.clone()), "{case:?}");
-            let mut state = aho_corasick::automaton::OverlappingState::start();
+            let mut state = OverlappingState::start();
             let listed = std::iter::from_fn(|| {
                 searcher.find_overlapping(input.clone(), &mut state);
                 state.get_match()
@@ -211,6 +211,25 @@ fn prefilters_pass_over_no_match() {
 }
 
 #[test]
+fn automata_of_the_patterns_of_another_one() {
+    let mut builder = noncontiguous::NFA::builder();
+    builder.match_kind(MatchKind::LeftmostLongest).ascii_case_insensitive(true).prefilter(false);
+    let given = builder.build(["ab", "a", "abc"]).unwrap();
+    // (of the other settings only the start kind counts)
+    let (mut dfa, mut nfa) = (DFA::builder(), contiguous::NFA::builder());
+    dfa.match_kind(MatchKind::Standard).start_kind(StartKind::Anchored);
+    let dfa = dfa.build_from_noncontiguous(&given).unwrap();
+    let nfa = nfa.ascii_case_insensitive(false).build_from_noncontiguous(&given).unwrap();
+    assert!(dfa.start_state(Anchored::No).is_err() && nfa.start_state(Anchored::No).is_ok());
+    let input = Input::new("ABCD").anchored(Anchored::Yes);
+    for automaton in [&dfa as &dyn Automaton, &nfa] {
+        assert_eq!(automaton.match_kind(), MatchKind::LeftmostLongest);
+        assert_eq!(automaton.try_find(&input), Ok(Some(Match::must(2, 0..3))));
+        assert!(automaton.prefilter().is_none());
+    }
+}
+
+#[test]
 fn texts_with_the_same_open_suffix_lead_to_one_state() {
     let words = ["abc", "bd"];
     let (automaton, mut states) = (DFA::new(words).unwrap(), HashMap::new());
@@ -238,4 +257,16 @@ fn searches_that_are_left_out_have_no_states() {
             assert_eq!(automaton.pattern_len(PatternID::must(1)), 2);
         }
     }
+}
+
+#[test]
+fn inputs_that_are_done_have_no_match() {
+    let (automaton, mut state) =
+        (DFA::builder().start_kind(StartKind::Anchored).build(["cat"]).unwrap(), OverlappingState::start());
+    let (cat, done) = (Input::new("cat").anchored(Anchored::Yes), Input::new("cat").span(3..2));
+    assert_eq!(automaton.try_find(&done), Ok(None));
+    assert_eq!(automaton.try_find_overlapping(&cat, &mut state), Ok(()));
+    assert_eq!(state.get_match(), Some(Match::must(0, 0..3)));
+    assert_eq!(automaton.try_find_overlapping(&done, &mut state), Ok(()));
+    assert_eq!(state.get_match(), None);
 }
