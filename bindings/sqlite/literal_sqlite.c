@@ -115,10 +115,11 @@ static int add_word(Words *words, sqlite3_stmt *row, char **why) {
     return SQLITE_OK;
 }
 
-/* Reads the words of a JSON array. */
+/* Reads the words of a JSON array. The function of SQLite is named as one of `temp`, so that no table of this name in a
+ * database takes its place. */
 static int read_words(Words *words, sqlite3 *db, char **why) {
     sqlite3_stmt *rows = NULL;
-    int status = sqlite3_prepare_v2(db, "SELECT value, type = 'text' FROM json_each(?1)", -1, &rows, NULL);
+    int status = sqlite3_prepare_v2(db, "SELECT value, type = 'text' FROM temp.json_each(?1)", -1, &rows, NULL);
     if (status == SQLITE_OK)
         status = sqlite3_bind_text64(rows, 1, words->given, words->given_len, SQLITE_STATIC, SQLITE_UTF8);
     while (status == SQLITE_OK && (status = sqlite3_step(rows)) == SQLITE_ROW)
@@ -143,7 +144,8 @@ static bool has_zero(const char *given, size_t len) {
     static const char zero[] = "u0000";
     bool is_escaped = false;
     for (size_t at = 0; at < len; at++) {
-        if (is_escaped && len - at >= sizeof zero - 1 && memcmp(given + at, zero, sizeof zero - 1) == 0)
+        bool is_named = is_escaped && len - at >= sizeof zero - 1 && memcmp(given + at, zero, sizeof zero - 1) == 0;
+        if (is_named || given[at] == 0)
             return true;
         is_escaped = !is_escaped && given[at] == '\\';
     }
@@ -156,7 +158,7 @@ static int make_words(sqlite3 *db, const char *given, size_t len, Words **made, 
     if (!is_array(given, len))
         return explain(why, sqlite3_mprintf("the words are not a JSON array of texts, nor a list that is kept"));
     if (has_zero(given, len))
-        return explain(why, sqlite3_mprintf("a word has the character \\u0000"));
+        return explain(why, sqlite3_mprintf("the words have the character \\u0000"));
     Words *words = sqlite3_malloc64(sizeof *words);
     if (words == NULL)
         return SQLITE_NOMEM;

@@ -102,12 +102,18 @@ class Functions(Extension):
                            ('["a"', "malformed JSON"), ('["a", 5]', "the word at index 1 is no text"),
                            ('["a", "b", null]', "the word at index 2 is no text"), ('[["a"]]', "index 0 is no text"),
                            ('["a", ""]', "the word at index 1 is empty"),
-                           (r'["a\u0000b"]', "a word has the character"), (r'["\\\u0000"]', "a word has the char")):
+                           (r'["a\u0000b"]', "the words have the character"), (r'["\\\u0000"]', "the words have"),
+                           ('["a"]\0', "the words have the character")):
             for call in "lit_has(?, ?)", "lit_count(?, ?)", "lit_first(?, ?)", "* FROM lit_matches(?, ?)":
                 self.refused(why, f"SELECT {call}", "a", words)
         self.assertEqual(self.one("lit_has('a', ?)", ' \t\n\r[ "a" ]'), 1)
         self.assertEqual(self.one(r"lit_first('\u0000', ?)", r'["\\u0000"]'), r"\u0000")
         self.refused("no query solution", "SELECT * FROM lit_matches('a')")
+
+    def test_a_table_with_the_name_of_a_function(self):
+        """No table takes the place of the function by which words are read."""
+        self.db.execute("CREATE TABLE json_each(value, type)")
+        self.assertEqual(self.one("lit_first('a fig', '[\"fig\"]')"), "fig")
 
     def test_limits(self):
         self.refused("too big", "SELECT lit_has(zeroblob(1000000001), '[\"a\"]')")
