@@ -3,6 +3,7 @@ LITERAL_SQLITE names the extension, and LITERAL_SQLITE_REFUSED the program that 
 import json
 import os
 import random
+import re
 import shutil
 import sqlite3
 import subprocess
@@ -293,6 +294,24 @@ class Named(Extension):
     def test_only_in_queries(self):
         self.db.execute("CREATE VIEW lists AS SELECT lit_list('fruit', 1, '[\"fig\"]')")
         self.refused("unsafe use of lit_list", "SELECT * FROM lists")
+
+
+class Page(Extension):
+    def test_examples(self):
+        """Those of README.md, in their order."""
+        self.db.executescript("""
+            CREATE TABLE texts(text); INSERT INTO texts VALUES('a fig, a pear'), ('apple'), ('é pears');
+            CREATE TABLE prices(word, price); INSERT INTO prices VALUES('fig', 3), ('pear', 5);
+            CREATE TABLE lists(name, words); INSERT INTO lists VALUES('one', '["fig"]'), ('two', '["pear", "e"]');
+            CREATE TABLE list_words(list, version, word); INSERT INTO list_words VALUES('one', 1, 'fig')""")
+        page = Path(__file__).with_name("README.md").read_text("utf-8")
+        given = ";".join(re.findall("```sql\n(.*?)```", page, re.DOTALL)).split(";")
+        self.assertEqual([sorted(self.rows(it)) for it in given if it.strip()], [
+            [("a fig, a pear",), ("é pears",)],
+            [(1, "fig", 3, "fig"), (1, "pear", 10, "pear"), (3, "pear", 3, "pear")],
+            [(1, 3), (1, 5), (3, 5)],
+            [(1, "one"), (1, "two"), (2, "two"), (3, "two")],
+            [(1, "one")]])
 
 
 class Programs(unittest.TestCase):
