@@ -360,6 +360,26 @@ class Refusals(unittest.TestCase):
             self.assertRaises(error, searcher.sub_stream, Pieces(b"xa", 1), out, by)
         self.assertRaises(AttributeError, searcher.sub_stream, Pieces(b"xa", 1), None, b"b")
 
+    def test_a_list_is_checked_once(self):
+        """However many parts there are, and if another stream has another list meanwhile."""
+        class Listed(list):
+            asked = 0
+
+            def __iter__(self):
+                self.asked += 1
+                return super().__iter__()
+
+        class Between(Pieces):
+            def read(self, size):
+                others.append(replaced(searcher, ["", "z"], "ab", 1))
+                return super().read(size)
+
+        searcher, by, out, others = Search(["a", "b"]), Listed(["x", "y"]), io.StringIO(), []
+        self.assertEqual(replaced(searcher, by, "ab-ba" * 10, 3), "xy-yx" * 10)
+        self.assertEqual(by.asked, 1)
+        searcher.sub_stream(Between("ab-ba" * 10, 3), out, by)
+        self.assertEqual((out.getvalue(), set(others)), ("xy-yx" * 10, {"z"}))
+
     def test_matches_are_plain(self):
         match = next(Search([b"a"]).finditer_stream(Pieces(b"xa", 1)))
         self.assertEqual((type(match), match.group(), match.value), (Match, b"a", b"a"))
