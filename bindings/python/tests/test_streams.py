@@ -380,6 +380,15 @@ class Refusals(unittest.TestCase):
         searcher.sub_stream(Between("ab-ba" * 10, 3), out, by)
         self.assertEqual((out.getvalue(), set(others)), ("xy-yx" * 10, {"z"}))
 
+    def test_a_long_list_takes_no_time_for_each_part(self):
+        words, times = [f"w{it}x" for it in range(40000)], []
+        searcher, text = Search(words), "w17x and more words " * 1000
+        for by in (lambda _: "y"), words:
+            start = time.process_time()
+            replaced(searcher, by, text, 50)
+            times.append(time.process_time() - start)
+        self.assertLess(times[1], 10 * times[0])
+
     def test_matches_are_plain(self):
         match = next(Search([b"a"]).finditer_stream(Pieces(b"xa", 1)))
         self.assertEqual((type(match), match.group(), match.value), (Match, b"a", b"a"))
