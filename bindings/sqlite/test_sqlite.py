@@ -8,6 +8,7 @@ import shutil
 import sqlite3
 import subprocess
 import sys
+import time
 import unittest
 from pathlib import Path
 
@@ -248,6 +249,23 @@ class Named(Extension):
             self.check("".join(f"word{it:02}" for it in range(len(keys))), [f"word{it:02}"], handle)
         self.assertEqual(self.one("lit_list(1, 1, '[]')"), handles[6])
 
+    def test_many_names(self):
+        """The time for each does not grow with their number. They are found in any order."""
+        def listed(numbers):
+            start = time.process_time()
+            handles = [self.listed(f"list {it * 4999 % 8000}", 1, f"<{it}>") for it in numbers]
+            return time.process_time() - start, handles
+
+        few, first = listed(range(1000))
+        _, others = listed(range(1000, 7000))
+        many, last = listed(range(7000, 8000))
+        self.assertLess(many, 4 * few)
+        handles = list(enumerate(first + others + last))
+        random.Random(3).shuffle(handles)
+        for it, handle in handles:
+            self.assertEqual(self.rows("SELECT lit_first(?, ?)", f"<{it}", handle), [(None,)])
+            self.assertEqual(self.rows("SELECT lit_first(?, ?)", f"<{it}>", handle), [(f"<{it}>",)])
+
     def test_many_lists_in_a_join(self):
         """In either order, twice, and then with more words for one of them."""
         words = [(f"list {it}", 1, f"{it:03}{more}") for it in range(5 * LISTS) for more in "ab"]
@@ -268,7 +286,9 @@ class Named(Extension):
     def test_refused(self):
         for version in "3", 3.0, b"3":
             self.refused("the version is no integer", "SELECT lit_list('fruit', ?, '[]')", version)
-        self.refused("nor a list that is kept", "SELECT lit_has('a', ?)", "version 1 of none")
+        self.listed("", 1, "fig")
+        for words in "version 1 of none", "version 1 of", "version 1 o", "version ", "", b"", "version of ", "version 1":
+            self.refused("nor a list that is kept", "SELECT lit_has('a', ?)", words)
         fruit = self.listed("fruit", 3, "fig")
         for words, why in (("[5]", "index 0 is no text"), ("[", "malformed JSON"), (fruit, "not a JSON array"),
                            (b'["a"]', "not a JSON array"), (5, "not a JSON array")):
