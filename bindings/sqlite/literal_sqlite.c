@@ -29,13 +29,12 @@ typedef struct {
     literal_search *search;
 } Words;
 
-/* The arrays that a connection used last, the latest first, and its lists of lit_list, with the place of the one that
- * was used last. */
+/* The arrays that a connection used last, the latest first, and its lists of lit_list, ordered by their names. */
 typedef struct {
     size_t holders;
     Words *kept[KEPT];
     Words **named;
-    size_t named_len, named_room, last;
+    size_t named_len, named_room;
 } Recent;
 
 /* What is searched: a text, or a blob. */
@@ -115,10 +114,11 @@ static int add_word(Words *words, sqlite3_stmt *row, char **why) {
     return SQLITE_OK;
 }
 
-/* Reads the words of a JSON array. */
+/* Reads the words of a JSON array. The function of SQLite is named as one of `temp`, so that no table of this name in a
+ * database takes its place. */
 static int read_words(Words *words, sqlite3 *db, char **why) {
     sqlite3_stmt *rows = NULL;
-    int status = sqlite3_prepare_v2(db, "SELECT value, type = 'text' FROM json_each(?1)", -1, &rows, NULL);
+    int status = sqlite3_prepare_v2(db, "SELECT value, type = 'text' FROM temp.json_each(?1)", -1, &rows, NULL);
     if (status == SQLITE_OK)
         status = sqlite3_bind_text64(rows, 1, words->given, words->given_len, SQLITE_STATIC, SQLITE_UTF8);
     while (status == SQLITE_OK && (status = sqlite3_step(rows)) == SQLITE_ROW)
@@ -143,7 +143,8 @@ static bool has_zero(const char *given, size_t len) {
     static const char zero[] = "u0000";
     bool is_escaped = false;
     for (size_t at = 0; at < len; at++) {
-        if (is_escaped && len - at >= sizeof zero - 1 && memcmp(given + at, zero, sizeof zero - 1) == 0)
+        bool is_named = is_escaped && len - at >= sizeof zero - 1 && memcmp(given + at, zero, sizeof zero - 1) == 0;
+        if (is_named || given[at] == 0)
             return true;
         is_escaped = !is_escaped && given[at] == '\\';
     }
@@ -156,7 +157,7 @@ static int make_words(sqlite3 *db, const char *given, size_t len, Words **made, 
     if (!is_array(given, len))
         return explain(why, sqlite3_mprintf("the words are not a JSON array of texts, nor a list that is kept"));
     if (has_zero(given, len))
-        return explain(why, sqlite3_mprintf("a word has the character \\u0000"));
+        return explain(why, sqlite3_mprintf("the words have the character \\u0000"));
     Words *words = sqlite3_malloc64(sizeof *words);
     if (words == NULL)
         return SQLITE_NOMEM;
@@ -176,33 +177,58 @@ static int make_words(sqlite3 *db, const char *given, size_t len, Words **made, 
     return status;
 }
 
-/* Whether a list is the one that is given, or has this name. */
-static bool is_same(const Words *words, size_t from, const char *given, size_t len) {
-    return words->given_len - from == len && memcmp(words->given + from, given, len) == 0;
+static bool is_same(const Words *words, const char *given, size_t len) {
+    return words->given_len == len && memcmp(words->given, given, len) == 0;
 }
 
-/* Where a list of lit_list is kept, by its handle or by its name, or NULL. The search begins where the last one ended,
- * since the next row often has the same list or the next one. */
-static Words **named(Recent *recent, const char *given, size_t len, bool is_name) {
-    for (size_t i = 0; i < recent->named_len; i++) {
-        size_t at = (recent->last + i) % recent->named_len;
-        Words **words = &recent->named[at];
-        if (is_same(*words, is_name ? (*words)->name : 0, given, len)) {
-            recent->last = at;
-            return words;
-        }
+/* Where the name begins in the handle of lit_list, such as "version 3 of fruit"; or the length of what is no handle. */
+static size_t name_in(const char *given, size_t len) {
+    static const char before[] = "version ", between[] = " of ";
+    size_t at = sizeof before - 1;
+    if (len < at || memcmp(given, before, at) != 0)
+        return len;
+    while (at < len && (given[at] == '-' || (given[at] >= '0' && given[at] <= '9')))
+        at++;
+    return len - at >= sizeof between - 1 && memcmp(given + at, between, sizeof between - 1) == 0
+               ? at + sizeof between - 1
+               : len;
+}
+
+/* How the name of a list is ordered to another one: by their lengths, and then by their bytes. */
+static int compare_name(const Words *words, const char *name, size_t len) {
+    size_t own = words->given_len - words->name;
+    if (own != len)
+        return own < len ? -1 : 1;
+    return len == 0 ? 0 : memcmp(words->given + words->name, name, len);
+}
+
+/* Where a list with this name is kept, or would be. */
+static size_t place_of(const Recent *recent, const char *name, size_t len) {
+    size_t low = 0, high = recent->named_len;
+    while (low < high) {
+        size_t middle = low + (high - low) / 2;
+        if (compare_name(recent->named[middle], name, len) < 0)
+            low = middle + 1;
+        else
+            high = middle;
     }
-    return NULL;
+    return low;
+}
+
+/* The list of lit_list with this handle, or NULL. */
+static Words *named(const Recent *recent, const char *given, size_t len) {
+    size_t name = name_in(given, len), at = place_of(recent, given + name, len - name);
+    return at < recent->named_len && is_same(recent->named[at], given, len) ? recent->named[at] : NULL;
 }
 
 /* The search for a JSON array, kept or new. The connection holds it until it has used KEPT other ones. */
 static int words_for_array(Recent *recent, sqlite3 *db, const char *given, size_t len, Words **words, char **why) {
     int at = 0;
     *words = NULL;
-    while (at < KEPT - 1 && recent->kept[at] != NULL && !is_same(recent->kept[at], 0, given, len))
+    while (at < KEPT - 1 && recent->kept[at] != NULL && !is_same(recent->kept[at], given, len))
         at++;
     *words = recent->kept[at];
-    if (*words == NULL || !is_same(*words, 0, given, len)) {
+    if (*words == NULL || !is_same(*words, given, len)) {
         int status = make_words(db, given, len, words, why);
         if (status != SQLITE_OK)
             return status;
@@ -215,11 +241,8 @@ static int words_for_array(Recent *recent, sqlite3 *db, const char *given, size_
 
 /* The search for a handle or a JSON array. */
 static int words_for(Recent *recent, sqlite3 *db, const char *given, size_t len, Words **words, char **why) {
-    Words **kept = is_array(given, len) ? NULL : named(recent, given, len, false);
-    if (kept == NULL)
-        return words_for_array(recent, db, given, len, words, why);
-    *words = *kept;
-    return SQLITE_OK;
+    *words = is_array(given, len) ? NULL : named(recent, given, len);
+    return *words == NULL ? words_for_array(recent, db, given, len, words, why) : SQLITE_OK;
 }
 
 /* ---- Arguments ---- */
@@ -318,8 +341,8 @@ static void lit_first(sqlite3_context *context, int count, sqlite3_value **given
 
 /* ---- Lists with a name ---- */
 
-/* Makes the handle of a list, such as "version 3 of fruit", which is no JSON array; and says where the name begins. */
-static int make_handle(sqlite3 *db, sqlite3_value **given, char **handle, size_t *len, size_t *name, char **why) {
+/* Makes the handle of a list, such as "version 3 of fruit", which is no JSON array. */
+static int make_handle(sqlite3 *db, sqlite3_value **given, char **handle, size_t *len, char **why) {
     Text text;
     if (sqlite3_value_type(given[1]) != SQLITE_INTEGER)
         return explain(why, sqlite3_mprintf("the version is no integer"));
@@ -327,16 +350,28 @@ static int make_handle(sqlite3 *db, sqlite3_value **given, char **handle, size_t
         return SQLITE_NOMEM;
     sqlite3_str *made = sqlite3_str_new(db);
     sqlite3_str_appendf(made, "version %lld of ", sqlite3_value_int64(given[1]));
-    *name = (size_t)sqlite3_str_length(made);
     sqlite3_str_append(made, (const char *)text.bytes, (int)text.len);
     *len = (size_t)sqlite3_str_length(made);
     *handle = sqlite3_str_finish(made);
     return *handle == NULL ? SQLITE_NOMEM : SQLITE_OK;
 }
 
+/* Keeps a list, instead of one of the same name. There is room for one more. */
+static void put_list(Recent *recent, Words *words) {
+    const char *name = words->given + words->name;
+    size_t len = words->given_len - words->name, at = place_of(recent, name, len);
+    Words **place = recent->named + at;
+    if (at < recent->named_len && compare_name(*place, name, len) == 0) {
+        release_words(*place);
+    } else {
+        memmove(place + 1, place, (recent->named_len - at) * sizeof *place);
+        recent->named_len++;
+    }
+    *place = words;
+}
+
 /* Makes a list with a handle, and keeps it instead of the version of this name that was kept. */
-static int add_list(Recent *recent, sqlite3 *db, sqlite3_value *of, const char *handle, size_t len, size_t name,
-                    char **why) {
+static int add_list(Recent *recent, sqlite3 *db, sqlite3_value *of, const char *handle, size_t len, char **why) {
     Text array;
     Words *words;
     char *given = copy_of(handle, len);
@@ -352,13 +387,8 @@ static int add_list(Recent *recent, sqlite3 *db, sqlite3_value *of, const char *
     sqlite3_free(words->given);
     words->given = given;
     words->given_len = len;
-    words->name = name;
-    Words **at = named(recent, handle + name, len - name, true);
-    if (at == NULL)
-        at = &recent->named[recent->named_len++];
-    else
-        release_words(*at);
-    *at = words;
+    words->name = name_in(handle, len);
+    put_list(recent, words);
     return SQLITE_OK;
 }
 
@@ -367,13 +397,13 @@ static void lit_list(sqlite3_context *context, int count, sqlite3_value **given)
     Recent *recent = sqlite3_user_data(context);
     sqlite3 *db = sqlite3_context_db_handle(context);
     char *handle = NULL, *why = NULL;
-    size_t len = 0, name = 0;
+    size_t len = 0;
     (void)count;
     if (is_null(given) || sqlite3_value_type(given[2]) == SQLITE_NULL)
         return;
-    int status = make_handle(db, given, &handle, &len, &name, &why);
-    if (status == SQLITE_OK && named(recent, handle, len, false) == NULL)
-        status = add_list(recent, db, given[2], handle, len, name, &why);
+    int status = make_handle(db, given, &handle, &len, &why);
+    if (status == SQLITE_OK && named(recent, handle, len) == NULL)
+        status = add_list(recent, db, given[2], handle, len, &why);
     if (status == SQLITE_OK) {
         sqlite3_result_text64(context, handle, len, sqlite3_free, SQLITE_UTF8);
     } else {

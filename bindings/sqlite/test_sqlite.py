@@ -3,10 +3,12 @@ LITERAL_SQLITE names the extension, and LITERAL_SQLITE_REFUSED the program that 
 import json
 import os
 import random
+import re
 import shutil
 import sqlite3
 import subprocess
 import sys
+import time
 import unittest
 from pathlib import Path
 
@@ -102,12 +104,18 @@ class Functions(Extension):
                            ('["a"', "malformed JSON"), ('["a", 5]', "the word at index 1 is no text"),
                            ('["a", "b", null]', "the word at index 2 is no text"), ('[["a"]]', "index 0 is no text"),
                            ('["a", ""]', "the word at index 1 is empty"),
-                           (r'["a\u0000b"]', "a word has the character"), (r'["\\\u0000"]', "a word has the char")):
+                           (r'["a\u0000b"]', "the words have the character"), (r'["\\\u0000"]', "the words have"),
+                           ('["a"]\0', "the words have the character")):
             for call in "lit_has(?, ?)", "lit_count(?, ?)", "lit_first(?, ?)", "* FROM lit_matches(?, ?)":
                 self.refused(why, f"SELECT {call}", "a", words)
         self.assertEqual(self.one("lit_has('a', ?)", ' \t\n\r[ "a" ]'), 1)
         self.assertEqual(self.one(r"lit_first('\u0000', ?)", r'["\\u0000"]'), r"\u0000")
         self.refused("no query solution", "SELECT * FROM lit_matches('a')")
+
+    def test_a_table_with_the_name_of_a_function(self):
+        """No table takes the place of the function by which words are read."""
+        self.db.execute("CREATE TABLE json_each(value, type)")
+        self.assertEqual(self.one("lit_first('a fig', '[\"fig\"]')"), "fig")
 
     def test_limits(self):
         self.refused("too big", "SELECT lit_has(zeroblob(1000000001), '[\"a\"]')")
@@ -241,6 +249,23 @@ class Named(Extension):
             self.check("".join(f"word{it:02}" for it in range(len(keys))), [f"word{it:02}"], handle)
         self.assertEqual(self.one("lit_list(1, 1, '[]')"), handles[6])
 
+    def test_many_names(self):
+        """The time for each does not grow with their number. They are found in any order."""
+        def listed(numbers):
+            start = time.process_time()
+            handles = [self.listed(f"list {it * 4999 % 8000}", 1, f"<{it}>") for it in numbers]
+            return time.process_time() - start, handles
+
+        few, first = listed(range(1000))
+        _, others = listed(range(1000, 7000))
+        many, last = listed(range(7000, 8000))
+        self.assertLess(many, 4 * few)
+        handles = list(enumerate(first + others + last))
+        random.Random(3).shuffle(handles)
+        for it, handle in handles:
+            self.assertEqual(self.rows("SELECT lit_first(?, ?)", f"<{it}", handle), [(None,)])
+            self.assertEqual(self.rows("SELECT lit_first(?, ?)", f"<{it}>", handle), [(f"<{it}>",)])
+
     def test_many_lists_in_a_join(self):
         """In either order, twice, and then with more words for one of them."""
         words = [(f"list {it}", 1, f"{it:03}{more}") for it in range(5 * LISTS) for more in "ab"]
@@ -261,7 +286,9 @@ class Named(Extension):
     def test_refused(self):
         for version in "3", 3.0, b"3":
             self.refused("the version is no integer", "SELECT lit_list('fruit', ?, '[]')", version)
-        self.refused("nor a list that is kept", "SELECT lit_has('a', ?)", "version 1 of none")
+        self.listed("", 1, "fig")
+        for words in "version 1 of none", "version 1 of", "version 1 o", "version ", "", b"", "version of ", "version 1":
+            self.refused("nor a list that is kept", "SELECT lit_has('a', ?)", words)
         fruit = self.listed("fruit", 3, "fig")
         for words, why in (("[5]", "index 0 is no text"), ("[", "malformed JSON"), (fruit, "not a JSON array"),
                            (b'["a"]', "not a JSON array"), (5, "not a JSON array")):
@@ -287,6 +314,24 @@ class Named(Extension):
     def test_only_in_queries(self):
         self.db.execute("CREATE VIEW lists AS SELECT lit_list('fruit', 1, '[\"fig\"]')")
         self.refused("unsafe use of lit_list", "SELECT * FROM lists")
+
+
+class Page(Extension):
+    def test_examples(self):
+        """Those of README.md, in their order."""
+        self.db.executescript("""
+            CREATE TABLE texts(text); INSERT INTO texts VALUES('a fig, a pear'), ('apple'), ('é pears');
+            CREATE TABLE prices(word, price); INSERT INTO prices VALUES('fig', 3), ('pear', 5);
+            CREATE TABLE lists(name, words); INSERT INTO lists VALUES('one', '["fig"]'), ('two', '["pear", "e"]');
+            CREATE TABLE list_words(list, version, word); INSERT INTO list_words VALUES('one', 1, 'fig')""")
+        page = Path(__file__).with_name("README.md").read_text("utf-8")
+        given = ";".join(re.findall("```sql\n(.*?)```", page, re.DOTALL)).split(";")
+        self.assertEqual([sorted(self.rows(it)) for it in given if it.strip()], [
+            [("a fig, a pear",), ("é pears",)],
+            [(1, "fig", 3, "fig"), (1, "pear", 10, "pear"), (3, "pear", 3, "pear")],
+            [(1, 3), (1, 5), (3, 5)],
+            [(1, "one"), (1, "two"), (2, "two"), (3, "two")],
+            [(1, "one")]])
 
 
 class Programs(unittest.TestCase):

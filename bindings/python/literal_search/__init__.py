@@ -323,7 +323,8 @@ class Search(_native.Prepared[AnyStr]):
         >>> out.getvalue()
         'dog and cat'
         """
-        for part in _stream.searched(_stream.for_stream(self), file, _stream.REPLACED, replacement):
+        searcher = _stream.for_stream(self)
+        for part in _stream.searched(searcher, file, _stream.REPLACED, self._checked(replacement)):
             out.write(part)
 
     def save(self, path: "StrPath") -> None:

@@ -42,7 +42,7 @@ typedef struct {
     const uint8_t *valid;     /* a bit for each text, or NULL if none is missing */
     const void *places;       /* the offsets or views */
     const void *const *bytes; /* the buffers of the texts: one, or those that views name by number */
-    const int64_t *lens;      /* the lengths of the buffers that views name */
+    const void *lens;         /* the lengths of the buffers that views name */
     int64_t buffers;          /* and how many they are */
     size_t first, count;      /* the number of the first text, and how many they are */
 } Column;
@@ -173,8 +173,11 @@ static int hold_source(Source *source, PyObject *of) {
     return 0;
 }
 
-/* The next array of a stream, or NULL: at its end, or with an error. The stream may wait for another thread. */
+/* The next array of a stream, or NULL: at its end, or with an error. The stream may wait for another thread. Signals are
+ * looked for here too, as an array may be too short for that. */
 static const ArrowArray *next_of_stream(Source *source) {
+    if (PyErr_CheckSignals())
+        return NULL;
     drop_array(source);
     PyThreadState *state = PyEval_SaveThread();
     int code = source->stream->get_next(source->stream, &source->array);
@@ -202,6 +205,18 @@ static int next_column(Source *source) {
     return read_array(&source->column, array) ? -1 : 1;
 }
 
+/* A number of 32 or of 64 bits in a buffer, which need not be aligned. */
+static int64_t number_in(const void *buffer, size_t at, bool is_large) {
+    int64_t large;
+    int32_t small;
+    if (is_large) {
+        memcpy(&large, (const char *)buffer + at * sizeof large, sizeof large);
+        return large;
+    }
+    memcpy(&small, (const char *)buffer + at * sizeof small, sizeof small);
+    return small;
+}
+
 /* A text by its view: that has its length, and its bytes if these are few, or else the first ones, the number of their
  * buffer and their offset there. */
 static int cell_by_view(const Column *column, size_t at, const uint8_t **bytes, size_t *len) {
@@ -214,8 +229,8 @@ static int cell_by_view(const Column *column, size_t at, const uint8_t **bytes, 
     *bytes = view + 4;
     if (parts[0] >= 0 && parts[0] <= FEW)
         return 1;
-    if (parts[0] < 0 || buffer < 0 || buffer >= column->buffers || start < 0 ||
-        column->lens[buffer] - start < parts[0])
+    if (parts[0] < 0 || buffer < 0 || buffer >= column->buffers || start < 0 || !column->bytes[buffer] ||
+        number_in(column->lens, (size_t)buffer, true) - start < parts[0])
         return refuse_column(": a view is of bytes that are not there");
     *bytes = (const uint8_t *)column->bytes[buffer] + start;
     return 1;
@@ -224,14 +239,12 @@ static int cell_by_view(const Column *column, size_t at, const uint8_t **bytes, 
 /* Finds a text of the column: 1, or 0 if it is missing, or -1 with an error. */
 static int cell_of(const Column *column, size_t number, const uint8_t **bytes, size_t *len) {
     size_t at = column->first + number;
+    bool is_large = column->layout == LARGE;
     if (column->valid && !(column->valid[at / 8] >> at % 8 & 1))
         return 0;
     if (column->layout == VIEWS)
         return cell_by_view(column, at, bytes, len);
-    const int32_t *small = column->places;
-    const int64_t *large = column->places;
-    bool is_large = column->layout == LARGE;
-    int64_t start = is_large ? large[at] : small[at], end = is_large ? large[at + 1] : small[at + 1];
+    int64_t start = number_in(column->places, at, is_large), end = number_in(column->places, at + 1, is_large);
     if (start < 0 || end < start)
         return refuse_column(": its offsets decrease");
     *bytes = column->bytes[0] ? (const uint8_t *)column->bytes[0] + start : (const uint8_t *)"";

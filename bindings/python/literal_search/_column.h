@@ -75,10 +75,14 @@ static bool goes_alone(const Prepared *self, const Column *column, const uint8_t
     return len > SHORT || is_wide;
 }
 
-/* The same by the call for one text. */
+static PyObject *search_find(PyObject *self, PyObject *const *given, Py_ssize_t count, PyObject *names);
+static PyObject *search_count(PyObject *self, PyObject *const *given, Py_ssize_t count, PyObject *names);
+
+/* The same by the call for one text: not by the method of a subclass, which short texts do not get. */
 static PyObject *found_alone(Prepared *self, const Column *column, const uint8_t *text, size_t len, bool counts) {
-    PyObject *of = object_of(column, text, len);
-    PyObject *answer = of ? PyObject_CallMethod((PyObject *)self, counts ? "count" : "find", "O", of) : NULL;
+    PyObject *of = object_of(column, text, len), *answer = NULL;
+    if (of)
+        answer = (counts ? search_count : search_find)((PyObject *)self, &of, 1, NULL);
     Py_XDECREF(of);
     return answer;
 }

@@ -362,6 +362,24 @@ static PyObject *wanted_of(Walk *walk, int wanted, PyObject *replacement) {
     return answer;
 }
 
+PyDoc_STRVAR(checked_doc, "_checked($self, replacement, /)\n--\n\n"
+"The replacement of each part of a stream. Of a list it is a tuple, whose items `_so_far` does not check again.");
+
+static PyObject *search_checked(PyObject *of, PyObject *given) {
+    Prepared *self = (Prepared *)of;
+    if (!is_ready(self->takes))
+        return NULL;
+    if (PyCallable_Check(given) || !(PyList_Check(given) || PyTuple_Check(given)))
+        return Py_NewRef(given);
+    PyObject *checked = replacements(self, given, self->takes == TAKES_STR || self->takes == TAKES_FOLDED);
+    PyObject *before = self->checked;
+    if (checked) {
+        self->checked = Py_NewRef(checked);
+        Py_XDECREF(before);
+    }
+    return checked;
+}
+
 PyDoc_STRVAR(so_far_doc, "_so_far($self, part, start, before, more, wanted, replacement, /)\n--\n\n"
 "The known answer for part[start:], where `before` counts the text before the part, and more may follow: the wanted\n"
 "answer, the offset in the part up to which it holds, and whether no more is known. It lists some thousands of\n"
@@ -539,10 +557,10 @@ PyDoc_STRVAR(sizeof_doc, "__sizeof__($self, /)\n--\n\n"
 
 static PyObject *search_sizeof(PyObject *of, PyObject *unused) {
     const Prepared *self = (Prepared *)of;
-    PyObject *const parts[4] = {of, self->prepared, self->for_all, self->set};
+    PyObject *const parts[5] = {of, self->prepared, self->for_all, self->set, self->checked};
     size_t size = self->pieces.len + self->pieces.count * sizeof(size_t);
     (void)unused;
-    for (int i = 0; i < 4 && !PyErr_Occurred(); i++) {
+    for (int i = 0; i < 5 && !PyErr_Occurred(); i++) {
         PyObject *type = (PyObject *)&PyBaseObject_Type;
         PyObject *len = parts[i] ? PyObject_CallMethod(type, "__sizeof__", "O", parts[i]) : NULL;
         size += len ? PyLong_AsSize_t(len) : 0;
@@ -581,6 +599,7 @@ static int search_traverse(PyObject *of, visitproc visit, void *arg) {
     Py_VISIT(((Prepared *)of)->patterns);
     Py_VISIT(((Prepared *)of)->values);
     Py_VISIT(((Prepared *)of)->set);
+    Py_VISIT(((Prepared *)of)->checked);
     return 0;
 }
 
@@ -593,6 +612,7 @@ static void search_dealloc(PyObject *of) {
     drop_prepared(self);
     Py_XDECREF(self->for_all);
     Py_XDECREF(self->set);
+    Py_XDECREF(self->checked);
     free_pieces(&self->pieces);
     PyObject_GC_Del(of);
     Py_DECREF(type);
@@ -616,6 +636,7 @@ static PyMethodDef search_methods[] = {
     CALL(subn),
     CALL(split),
     {"_prepare", search_prepare, METH_VARARGS, prepare_doc},
+    {"_checked", search_checked, METH_O, checked_doc},
     {"_so_far", search_so_far, METH_VARARGS, so_far_doc},
     {"_each", search_each, METH_VARARGS, each_doc},
     {"_columns_each", search_columns_each, METH_VARARGS, columns_each_doc},

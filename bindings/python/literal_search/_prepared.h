@@ -25,6 +25,7 @@ typedef struct {
     Py_buffer mapped;   /* the buffer of that view, or without an object if it is bytes */
     PyObject *for_all;  /* the one for all that occurs, once it was asked for */
     PyObject *set;      /* the patterns as a set, once it was asked for */
+    PyObject *checked;  /* the replacements that a stream was given last, as a tuple, or NULL */
     int kind;
     char ignore_case, whole_words, ascii_case; /* (only the case of A to Z, in a str too) */
     bool leads_on; /* whether a pattern or a value may lead back to what holds it */

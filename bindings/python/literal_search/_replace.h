@@ -135,10 +135,12 @@ static PyObject *of_type(PyObject *replacement, bool is_str) {
 }
 
 /* What replaces matches: a function, a tuple of as many replacements as there are patterns, or one replacement. The
- * types of a mapping's values are checked only once if all are str or bytes, which never change. */
+ * types of a mapping's values are checked only once if all are str or bytes, which never change; and so are those that a
+ * stream was given. */
 static PyObject *replacements(Prepared *self, PyObject *given, bool is_str) {
     bool are_values = given == self->values && PyTuple_CheckExact(given);
-    if (PyCallable_Check(given) || given == self->patterns || (are_values && self->values_replace))
+    if (PyCallable_Check(given) || given == self->patterns || given == self->checked ||
+        (are_values && self->values_replace))
         return Py_NewRef(given);
     if (!PyList_Check(given) && !PyTuple_Check(given))
         return of_type(given, is_str);

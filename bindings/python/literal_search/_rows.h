@@ -22,15 +22,17 @@ typedef struct {
     size_t count, room;
 } Rows;
 
-/* The type of the arrays, and the name of a method, which is looked up by the same object each time. */
-static PyObject *array_type, *frombytes_name;
+/* The type of the arrays, the code of their items, and the name of a method, which is looked up by the same object each
+ * time. */
+static PyObject *array_type, *array_code, *frombytes_name;
 
 static int columns_ready(void) {
     PyObject *module = PyImport_ImportModule("array");
     array_type = module ? PyObject_GetAttrString(module, "array") : NULL;
+    array_code = PyUnicode_InternFromString("q");
     frombytes_name = PyUnicode_InternFromString("frombytes");
     Py_XDECREF(module);
-    return array_type && frombytes_name ? 0 : -1;
+    return array_type && array_code && frombytes_name ? 0 : -1;
 }
 
 /* Makes room for more rows. */
@@ -51,7 +53,7 @@ static int widen_rows(Rows *rows) {
 
 /* An array of the numbers of a column. */
 static PyObject *array_of_column(const Rows *rows, int at) {
-    PyObject *array = PyObject_CallFunction(array_type, "s", "q"), *none = NULL;
+    PyObject *array = PyObject_CallOneArg(array_type, array_code), *none = NULL;
     Py_ssize_t size = (Py_ssize_t)(rows->count * sizeof(int64_t));
     PyObject *view = array && size > 0 ? PyMemoryView_FromMemory((char *)rows->columns[at], size, PyBUF_READ) : NULL;
     if (view)

@@ -155,14 +155,17 @@ static int hold(Text *text, Takes takes, PyObject *of) {
     return -1;
 }
 
+/* From Python 3.12 on the release of a buffer may run any code, which may give the same text back: so it comes last. */
 static void give_back(Text *text) {
-    if (text->buffer.obj)
-        PyBuffer_Release(&text->buffer);
+    Py_buffer buffer = text->buffer;
+    text->buffer.obj = NULL;
     Py_CLEAR(text->encoded);
     PyMem_Free(text->folded);
     PyMem_Free(text->sides);
     text->folded = text->sides = NULL;
     Py_CLEAR(text->of);
+    if (buffer.obj)
+        PyBuffer_Release(&buffer);
 }
 
 /* How many characters begin in some bytes of UTF-8. */

@@ -1,7 +1,9 @@
 """Columns by Arrow's C data interface."""
 import ctypes
 import random
+import signal
 import struct
+import time
 import unittest
 
 from literal_search import Search
@@ -44,13 +46,41 @@ class Columns(unittest.TestCase):
         self.check(Search(["ba", "a"]), [text, "b", "ä" + text], (b"u", b"U", b"vu"))
         self.check(Search(["ba", "a"], whole_words=True), [text + " ba a"], (b"u",))
 
-    def test_what_goes_to_the_call_for_one_text(self):
-        """A text whose search may take long: it can be ended by a signal."""
-        class Alone(Search):
-            def count(self, text):
-                return "alone"
+    def test_a_signal_ends_a_long_text(self):
+        class Ended(Exception):
+            pass
 
-        self.assertEqual(Alone(["a"]).count_each(Column(["a", "a" * 5000], b"u")), [1, "alone"])
+        def end(*_):
+            raise Ended
+
+        self.addCleanup(signal.signal, signal.SIGVTALRM, signal.signal(signal.SIGVTALRM, end))
+        searcher, column = Search(["ab"]), Column(["ab" * (16 << 20)], b"u", ())
+        start = time.process_time()
+        self.assertEqual(searcher.count_each(column), [16 << 20])
+        whole, start = time.process_time() - start, time.process_time()
+        signal.setitimer(signal.ITIMER_VIRTUAL, whole / 20)
+        with self.assertRaises(Ended):
+            searcher.count_each(column)
+        self.assertLess(time.process_time() - start, whole / 2)
+
+    def test_methods_of_a_subclass(self):
+        """They search no texts of a column, neither short ones nor long ones."""
+        class Own(Search):
+            def find(self, text):
+                return "own"
+
+            count = find
+
+        column, own = Column(["a", "a" * 5000], b"u"), Own(["a"])
+        self.assertEqual((own.find_each(column), own.count_each(column)), ([(0, 0, 1)] * 2, [1, 5000]))
+
+    def test_buffers_that_are_not_aligned(self):
+        for form in b"u", b"U", b"vu":
+            column = Column(["ab", "x" * 20 + "ab", None], form)
+            moved = [ctypes.create_string_buffer(b"x" + it, len(it) + 1) for it in column.parts]
+            for at, it in enumerate(moved):
+                column.buffers[at] = ctypes.addressof(it) + 1
+            self.assertEqual(Search(["ab"]).count_each(column, skip_missing=True), [1, 1, 0])
 
     def test_random_texts(self):
         chance = random.Random(3)

@@ -241,10 +241,11 @@ class OfArrow(unittest.TestCase):
                 Search(["a"]).count_each(damaged)
             damaged.array.length = 0
             self.assertEqual(Search(["a"]).count_each(damaged), [])
-        damaged = Column(["a"], b"u")
-        damaged.buffers[2] = None
-        with self.assertRaisesRegex(ValueError, "the column is damaged"):
-            Search(["a"]).count_each(damaged)
+        for form, text in (b"u", "a"), (b"vu", "a" * 20):
+            damaged = Column([text], form, ())
+            damaged.buffers[2] = None
+            with self.assertRaisesRegex(ValueError, "the column is damaged"):
+                Search(["a"]).count_each(damaged)
 
     def test_streams_that_fail(self):
         searcher = Search(["a"])
@@ -265,6 +266,21 @@ class OfArrow(unittest.TestCase):
             ended.stream.release = None
             with self.assertRaisesRegex(ValueError, "the column is released"):
                 call(ended)
+
+    def test_a_signal_ends_a_stream(self):
+        """Of arrays that are too short to look for signals in each."""
+        class Ended(Exception):
+            pass
+
+        def end(_, frame):
+            if frame.f_code is Search.count_each.__code__:  # (not in the stream's own functions)
+                raise Ended
+
+        self.addCleanup(signal.signal, signal.SIGVTALRM, signal.signal(signal.SIGVTALRM, end))
+        self.addCleanup(signal.setitimer, signal.ITIMER_VIRTUAL, 0)
+        signal.setitimer(signal.ITIMER_VIRTUAL, 0.001, 0.001)
+        with self.assertRaises(Ended):
+            Search(["a"], whole_words=True).count_each(Chunks([Column(["a " * 2000] * 10, b"u")] * 1000, b"u"))
 
     def test_of_another_type(self):
         with self.assertRaisesRegex(TypeError, "the patterns are bytes, and the text is str"):

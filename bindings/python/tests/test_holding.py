@@ -7,6 +7,7 @@ import mmap
 import operator
 import re
 import signal
+import sys
 import tempfile
 import threading
 import time
@@ -218,6 +219,26 @@ class Iterators(unittest.TestCase):
         next(matches)
         del matches
         text.clear()
+
+    @unittest.skipIf(sys.version_info < (3, 12), "this Python calls no __release_buffer__")
+    def test_given_back_once(self):
+        """Though it goes on when its text is released."""
+        class Lent:
+            data, released = bytearray(b"aa"), 0
+
+            def __buffer__(self, flags):
+                return memoryview(self.data)
+
+            def __release_buffer__(self, view):
+                self.released += 1
+                self.left = list(self.matches)
+                view.release()
+
+        text = Lent()
+        text.matches = Search([b"a"]).finditer(text)
+        self.assertEqual(len(list(text.matches)), 2)
+        self.assertEqual((text.released, text.left), (1, []))
+        text.data.clear()
 
     def test_given_back_by_the_collector(self):
         class Held(Search):

@@ -360,6 +360,35 @@ class Refusals(unittest.TestCase):
             self.assertRaises(error, searcher.sub_stream, Pieces(b"xa", 1), out, by)
         self.assertRaises(AttributeError, searcher.sub_stream, Pieces(b"xa", 1), None, b"b")
 
+    def test_a_list_is_checked_once(self):
+        """However many parts there are, and if another stream has another list meanwhile."""
+        class Listed(list):
+            asked = 0
+
+            def __iter__(self):
+                self.asked += 1
+                return super().__iter__()
+
+        class Between(Pieces):
+            def read(self, size):
+                others.append(replaced(searcher, ["", "z"], "ab", 1))
+                return super().read(size)
+
+        searcher, by, out, others = Search(["a", "b"]), Listed(["x", "y"]), io.StringIO(), []
+        self.assertEqual(replaced(searcher, by, "ab-ba" * 10, 3), "xy-yx" * 10)
+        self.assertEqual(by.asked, 1)
+        searcher.sub_stream(Between("ab-ba" * 10, 3), out, by)
+        self.assertEqual((out.getvalue(), set(others)), ("xy-yx" * 10, {"z"}))
+
+    def test_a_long_list_takes_no_time_for_each_part(self):
+        words, times = [f"w{it}x" for it in range(40000)], []
+        searcher, text = Search(words), "w17x and more words " * 1000
+        for by in (lambda _: "y"), words:
+            start = time.process_time()
+            replaced(searcher, by, text, 50)
+            times.append(time.process_time() - start)
+        self.assertLess(times[1], 10 * times[0])
+
     def test_matches_are_plain(self):
         match = next(Search([b"a"]).finditer_stream(Pieces(b"xa", 1)))
         self.assertEqual((type(match), match.group(), match.value), (Match, b"a", b"a"))
