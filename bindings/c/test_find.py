@@ -331,6 +331,7 @@ class OnWindows(Programs):
 class WithoutLibrary(Programs):
     """dist/system.c and dist/malloc.c. dist/build compiles them with the kit's compiler, which not each machine has."""
     FLAGS = ["-O2", "-ffreestanding", "-fno-builtin", "-fno-tree-loop-distribute-patterns", "-fno-stack-protector"]
+    FLAGS += ["-fsanitize=undefined", "-fsanitize-undefined-trap-on-error"]
     FLAGS += ["-nostdlib", "-static", "-no-pie", *(str(DIST / it) for it in ("system.c", "malloc.c"))]
 
     def test_here(self):
