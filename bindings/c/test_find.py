@@ -263,6 +263,11 @@ class OnMusl(Programs):
 class OnWindows(Programs):
     """With the archive, and with the DLL, by wine."""
 
+    @classmethod
+    def tearDownClass(cls):
+        """Waits for wine's server, which writes into its folder until it ends."""
+        run(WINE.replace("wine64", "wineserver"), "-w", env={**PLAIN, "WINEPREFIX": f"{cls.room.name}/wine"})
+
     def on_windows(self, program, *words, **how):
         """The status of a program, to whose name the compiler added an ending, and what it wrote."""
         given = {**PLAIN, "WINEPREFIX": f"{self.room.name}/wine", "WINEDEBUG": "-all"}
