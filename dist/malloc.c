@@ -1,6 +1,7 @@
 /* The allocator of the static programs, which have one thread. A block begins with a header, which has its length.
- * There are four lengths for each power of two, so less than a fifth of a block is wasted. Freed blocks are kept in a
- * list for each length. Blocks of a MiB or more have pages of their own, which return to the system. */
+ * From 64 bytes on there are four lengths for each power of two, so less than a fifth of a block is wasted. Freed
+ * blocks are kept in a list for each length. Blocks of a MiB or more have pages of their own, which return to the
+ * system. */
 typedef __SIZE_TYPE__ size_t;
 
 void *map_pages(size_t len);
@@ -71,9 +72,10 @@ void *malloc(size_t size) {
 }
 
 void free(void *at) {
-    block *given = (block *)at - 1;
+    block *given;
     if (at == 0)
         return;
+    given = (block *)at - 1;
     if (given->len >= LARGE) {
         unmap_pages(given, given->len);
     } else {
@@ -83,11 +85,12 @@ void free(void *at) {
 }
 
 void *realloc(void *at, size_t size) {
-    block *given = (block *)at - 1;
+    block *given;
     size_t len = len_for(size);
     void *made;
     if (at == 0)
         return malloc(size);
+    given = (block *)at - 1;
     if (len > 0 && len <= given->len && given->len < LARGE)
         return at;
     if (len >= LARGE && given->len >= LARGE) {

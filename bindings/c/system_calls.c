@@ -43,6 +43,13 @@ __attribute__((constructor)) static void construct(int count, char **words) {
     constructed = count == 3 && words[3] == 0;
 }
 
+/* Whether a name leads to a stream: they have the same inode number, the fifth word of what statx tells. */
+static int leads_to(const char *name, int stream) {
+    long named[32], asked[32];
+    int is_told = statx(-100, name, 0, 0x7ff, named) == 0 && statx(stream, "", 0x1000, 0x7ff, asked) == 0;
+    return is_told && named[4] == asked[4];
+}
+
 /* What is wrong with the calls of the system, or a null pointer. */
 static const char *calls(void) {
     long status[32];
@@ -51,6 +58,7 @@ static const char *calls(void) {
     CHECK(close(-1) == -1 && *__errno_location() == BAD_FILE && !isatty(-1));
     CHECK((file = open("/", 0, 0)) >= 0 && !isatty(file) && read(file, bytes, 1) == -1);
     CHECK(getdents64(file, bytes, ROOM) > 0 && statx(file, "", 0x1000, 0x7ff, status) == 0 && close(file) == 0);
+    CHECK(leads_to("/dev/stdin", 0) && leads_to("/dev/stdout", 1) && !leads_to("/", 1));
     CHECK(__sysv_signal(13, (void *)1) == 0 && __sysv_signal(13, 0) == (void *)1);
     return 0;
 }

@@ -39,6 +39,7 @@ TEXT = "Nobody likes maple in their apple flavored Snapple.\n"
 WORDS, FOUND = ["apple", "maple", "Snapple"], "1 13 18\n0 28 33\n2 43 50\n"
 PROGRAMS = (("litfind", ("longest", *WORDS)), ("litscan", ("-n", "-e", "apple", "-e", "maple", "-e", "they")))
 MOST_REQUESTS = 100
+CHANGE_ROOT = "unshare", "--map-root-user", "chroot"
 
 # Where bindings/test runs this, a library that refuses a request for memory stands before the C library.
 PLAIN = {name: value for name, value in os.environ.items() if name != "LD_PRELOAD"}
@@ -56,6 +57,10 @@ def exports(*words):
     """The names that an archive or a shared library defines, by some words of nm."""
     listed = run("nm", "--defined-only", *map(str, words))[1].splitlines()
     return {it.split()[2] for it in listed if " " in it}
+
+
+def can_change_root():
+    return shutil.which("unshare") is not None and run(*CHANGE_ROOT, "/", "true")[0] == 0
 
 
 class Programs(unittest.TestCase):
@@ -258,6 +263,11 @@ class OnMusl(Programs):
 class OnWindows(Programs):
     """With the archive, and with the DLL, by wine."""
 
+    @classmethod
+    def tearDownClass(cls):
+        """Waits for wine's server, which writes into its folder until it ends."""
+        run(WINE.replace("wine64", "wineserver"), "-w", env={**PLAIN, "WINEPREFIX": f"{cls.room.name}/wine"})
+
     def on_windows(self, program, *words, **how):
         """The status of a program, to whose name the compiler added an ending, and what it wrote."""
         given = {**PLAIN, "WINEPREFIX": f"{self.room.name}/wine", "WINEDEBUG": "-all"}
@@ -331,11 +341,19 @@ class OnWindows(Programs):
 class WithoutLibrary(Programs):
     """dist/system.c and dist/malloc.c. dist/build compiles them with the kit's compiler, which not each machine has."""
     FLAGS = ["-O2", "-ffreestanding", "-fno-builtin", "-fno-tree-loop-distribute-patterns", "-fno-stack-protector"]
+    FLAGS += ["-fsanitize=undefined", "-fsanitize-undefined-trap-on-error"]
     FLAGS += ["-nostdlib", "-static", "-no-pie", *(str(DIST / it) for it in ("system.c", "malloc.c"))]
 
     def test_here(self):
         program = self.compiled("system_calls", *self.FLAGS, library="-lgcc")
         self.assertEqual(run(program, "a", "word"), (0, ""))
+
+    @unittest.skipUnless(can_change_root(), "a process cannot change its root here")
+    def test_in_an_empty_folder(self):
+        program, empty = self.compiled("system_calls", *self.FLAGS, library="-lgcc"), Path(self.room.name, "empty")
+        empty.mkdir()
+        shutil.copy(program, empty / "program")
+        self.assertEqual(run(*CHANGE_ROOT, str(empty), "/program", "a", "word"), (0, ""))
 
     @unittest.skipUnless(all(map(shutil.which, (CROSS, "qemu-aarch64"))), f"there is no {CROSS}, or no qemu-aarch64")
     def test_on_arm(self):
