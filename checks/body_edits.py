@@ -1,4 +1,4 @@
-"""A crate's sources with their functions, and edits of them: docs/DESIGN.md, "Wrong bodies", says what stands in
+"""A crate's sources with their functions, and edits of them: docs/ARCHITECTURE.md, "Wrong bodies", says what stands in
 one."""
 import re
 
