@@ -4,7 +4,8 @@ ghost use Rattle.litscan.specs.Fault.{IsReadFault, IsWriteFault, StopsRead};
 ghost use Rattle.litscan.specs.Inside.Passed.{EndsLine, PassesOthers, TakesLines, printed_each, prints_others};
 ghost use Rattle.litscan.specs.Lines.{lines_of};
 ghost use Rattle.litscan.specs.declared.fault.Fault.TheVariants.{ReadFailed};
-ghost use Rattle.std.specs.Io.KnownBytes.{Appends, Consumes, Keeps};
+ghost use Rattle.std.specs.Io.KnownBytes.{Appends, Consumes, IsAtEnd, Keeps};
+ghost use Rattle.std.specs.Option.{OnSome};
 ghost use Rattle.std.specs.Prelude.{◌+◌, ◌<◌, ◌^◌, ◌≡◌, ◌≤◌, IfErr, IfOk, List, OnOk, [], false, if◌then◌else◌};
 ghost use Rattle.std.specs.Prelude.{length, take, true};
 ghost use Rattle.std.specs.Prelude.{ℕ};
@@ -29,18 +30,31 @@ pub struct Ahead {
     pub count: u64,
     /// Whether the last one has a match. No contract depends on it.
     pub found: bool,
+    /// Whether the input has ended. If it has, this need not be known.
+    pub ended: bool,
 }
 
 impl Ahead {
     /// No line was handled.
     pub fn none() -> Ahead
-        ensures { result ≡ record { lines = 0; bytes = 0; count = 0; found = false } }
+        ensures { result ≡ record { lines = 0; bytes = 0; count = 0; found = false; ended = false } }
     {
         Ahead {
             lines: 0,
             bytes: 0,
             count: 0,
             found: false,
+            ended: false,
+        }
+    }
+
+    /// No line was handled, since the input has ended.
+    fn at_end() -> Ahead
+        ensures { result ≡ record { lines = 0; bytes = 0; count = 0; found = false; ended = true } }
+    {
+        Ahead {
+            ended: true,
+            ..Ahead::none()
         }
     }
 }
@@ -63,6 +77,8 @@ pub fn take_ahead<R: BufRead + ReadsAhead, W: Write>(
         × Consumes (R.remaining reader.old.inner) (R.remaining reader.new.inner) text
         × TakesLines search.now options name.now lines offset ahead text (W.contents writer.old.inner)
         (W.contents writer.new.inner)) }
+    ensures end { IfOk result (λ ahead. ahead.ended ≡ true → (ahead.bytes ≡ 0)
+        × OnSome (R.remaining reader.old.inner) (IsAtEnd (R.remaining reader.new.inner))) }
     ensures kept { IfErr result (λ fault. fault ≡ ReadFailed
         → Keeps (W.contents writer.old.inner) (W.contents writer.new.inner)) }
     ensures error { IfErr result (StopsRead reader.new.failure writer.new.failure) }
@@ -102,6 +118,8 @@ impl<R: BufRead> Device<R> {
             × Consumes (R.remaining self.old.inner) (R.remaining self.new.inner) text
             × TakesLines search.now options name.now lines offset ahead text (W.contents writer.old.inner)
             (W.contents writer.new.inner)) }
+        ensures end { IfOk result (λ ahead. ahead.ended ≡ true → (ahead.bytes ≡ 0)
+            × OnSome (R.remaining self.old.inner) (IsAtEnd (R.remaining self.new.inner))) }
         ensures kept { IfErr result (λ fault. fault ≡ ReadFailed
             → Keeps (W.contents writer.old.inner) (W.contents writer.new.inner)) }
         ensures error { IfErr result (StopsRead self.new.failure writer.new.failure) }
@@ -118,7 +136,8 @@ impl<R: BufRead> Device<R> {
     /// The result of handling lines if a read fails. After an interrupted read, no line is handled.
     pub fn after_fill(&mut self, error: io::Error) -> Result<Ahead, Fault>
         ensures inner { self.new.inner ≡ self.old.inner }
-        ensures none { IfOk result (λ ahead. ahead ≡ record { lines = 0; bytes = 0; count = 0; found = false }) }
+        ensures none { IfOk result (λ ahead. ahead
+            ≡ record { lines = 0; bytes = 0; count = 0; found = false; ended = false }) }
         ensures error { IfErr result (IsReadFault self.new.failure) }
     {
         if error.kind() == ErrorKind::Interrupted {
@@ -148,11 +167,15 @@ fn take_buffered<W: Write>(
     ensures takes { IfOk result (λ ahead. TakesLines search.now options name.now lines offset ahead
         (take ahead.bytes bytes.now) (W.contents writer.old.inner) (W.contents writer.new.inner)) }
     ensures inside { IfOk result (λ ahead. ahead.bytes ≤ length bytes.now) }
+    ensures end { IfOk result (λ ahead. ahead.ended ≡ true → length bytes.now ≡ 0) }
     ensures error { IfErr result (IsWriteFault writer.new.failure) }
 {
     let Some(_) = end_behind(offset, bytes, 0) else {
         return Ok(Ahead::none());
     };
+    if bytes.is_empty() {
+        return Ok(Ahead::at_end());
+    }
     let passed = look_ahead(options, search, far, bytes);
     let front = &bytes[..passed.bytes];
     let others = take_others(options, name, lines, offset, passed.lines, front, writer)?;
@@ -162,6 +185,7 @@ fn take_buffered<W: Write>(
             bytes: passed.bytes,
             count: others,
             found: false,
+            ended: false,
         });
     };
     let line = &bytes[passed.bytes..passed.bytes + len];
@@ -175,6 +199,7 @@ fn take_buffered<W: Write>(
         bytes: passed.bytes + len + 1,
         count: others + count,
         found: true,
+        ended: false,
     })
 }
 

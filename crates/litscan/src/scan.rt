@@ -137,6 +137,9 @@ fn scan_lines<R: BufRead + ReadsAhead, W: Write>(
         lines += ahead.lines as u64;
         offset += ahead.bytes as u64;
         gap = gap.with(ahead.lines, ahead.found);
+        if ahead.ended {
+            return Ok(Scanned::whole(count));
+        }
         if ahead.bytes > 0 {
             continue;
         }

@@ -285,16 +285,22 @@ stops_behind limit test seen more count counted before behind n below =
     ]
 
 -- where no byte was handled no line was
+pub none_taken : {search : SearchValue} {options : Options} {name : List ℕ} {lines offset : ℕ} {ahead : Ahead}
+    {text : List ℕ} {written now : Option (List ℕ)}
+    → (takes : TakesLines search options name lines offset ahead text written now) → ahead.bytes ≡ 0
+    → takes.taken ≡ []
+none_taken {search} {options} takes none =
+    by takes.taken (omega (arith, none, takes.bytes_are, ap (λ (l : List ℕ). length l) takes.text_is))
+  where
+    by : (taken : List (List ℕ)) → length (flat_map (with_end options.line_end) taken) ≡ 0 → taken ≡ []
+    by [] is = refl
+    by (line ∷ more) is = absurd (omega (arith, is, length-feeds options.line_end line more))
+
 pub none_counted : {search : SearchValue} {options : Options} {name : List ℕ} {lines offset : ℕ} {ahead : Ahead}
     {text : List ℕ} {written now : Option (List ℕ)}
     → TakesLines search options name lines offset ahead text written now → ahead.bytes ≡ 0 → ahead.count ≡ 0
 none_counted {search} {options} takes none =
-    takes.counted ∙ by takes.taken (omega (arith, none, takes.bytes_are, ap (λ (l : List ℕ). length l) takes.text_is))
-  where
-    by : (taken : List (List ℕ)) → length (flat_map (with_end options.line_end) taken) ≡ 0
-        → count_by (counts search options) taken ≡ 0
-    by [] is = refl
-    by (line ∷ more) is = absurd (omega (arith, is, length-feeds options.line_end line more))
+    takes.counted ∙ ap (count_by (counts search options)) (none_taken takes none)
 
 -- the front of a list looks as the list does
 pub ahead_of_front : (line_end : ℕ) (search : SearchValue) (options : Options) (n : ℕ) (bytes : List ℕ)
@@ -310,10 +316,10 @@ ahead_of_front line_end search options n bytes passed ahead =
 
 -- none was handled
 pub nothing_taken : (search : SearchValue) (options : Options) (name : List ℕ) (lines offset : ℕ)
-    (written : Option (List ℕ)) → offset < 2 ^ 64
-    → TakesLines search options name lines offset (record { lines = 0; bytes = 0; count = 0; found = false }) [] written
-    written
-nothing_taken search options name lines offset written small = record {
+    (written : Option (List ℕ)) (ended : Bool) → offset < 2 ^ 64
+    → TakesLines search options name lines offset
+    (record { lines = 0; bytes = 0; count = 0; found = false; ended = ended }) [] written written
+nothing_taken search options name lines offset written ended small = record {
   taken = [];
   whole = All-nil (HasNoEnd options.line_end);
   text_is = refl;
@@ -424,8 +430,8 @@ module _ (search : SearchValue) (options : Options) (name : List ℕ) (lines off
         → Appends written now shown
         → offset + length bytes < 2 ^ 64 → passed.next ≡ None → IsAhead options.line_end search options bytes passed
         → TakesLines search options name lines offset
-        (record { lines = passed.lines; bytes = passed.bytes; count = others; found = false }) (take passed.bytes bytes)
-        written now
+        (record { lines = passed.lines; bytes = passed.bytes; count = others; found = false; ended = false })
+        (take passed.bytes bytes) written now
     lines_taken others others_are written now writes small is ahead =
         let takes = ahead.1 in
         let text_is = front_of bytes takes in
@@ -455,8 +461,13 @@ module _ (search : SearchValue) (options : Options) (name : List ℕ) (lines off
         → (now : Option (List ℕ)) (out : List ℕ) → Appends between now out
         → PrintsUnlessSilent (is_silent options) search options name number start (line ∷ []) out
         → TakesLines search options name lines offset
-        (record { lines = passed.lines + 1; bytes = passed.bytes + len + 1; count = others + count; found = true })
-        (take (passed.bytes + len + 1) bytes) written now
+        (record {
+          lines = passed.lines + 1;
+          bytes = passed.bytes + len + 1;
+          count = others + count;
+          found = true;
+          ended = false;
+        }) (take (passed.bytes + len + 1) bytes) written now
     line_taken others others_are written between before len line is takes number start count number_is start_is small
         counted now out writes printed =
         let these = takes.lines in

@@ -1,4 +1,4 @@
-use Rattle.std.proofs.Common.{[], subst, sym}
+use Rattle.std.proofs.Common.{[], false, subst, sym}
 use Rattle.std.proofs.KnownBytes.{Consumes-nil}
 use Rattle.litscan.specs.Inside.Passed.{TakesLines}
 use Rattle.litscan.proofs.lemmas.Passing.{nothing_taken}
@@ -11,6 +11,6 @@ returns-then-not-passes_others-clause-takes g c =
       Consumes-nil _,
       subst (λ a. TakesLines c.args.search.now c.args.options c.args.name.now c.args.lines c.args.offset a [] written
           written) (sym c.none.ensures)
-          (nothing_taken c.args.search.now c.args.options c.args.name.now c.args.lines c.args.offset written
+          (nothing_taken c.args.search.now c.args.options c.args.name.now c.args.lines c.args.offset written false
           c.ranges.offset.fits),
     )

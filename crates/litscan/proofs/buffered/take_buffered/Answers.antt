@@ -1,4 +1,4 @@
-use Rattle.std.proofs.Common.{◌+◌, arith, refl, slice_range, subst, sym, take}
+use Rattle.std.proofs.Common.{◌+◌, arith, false, refl, slice_range, subst, sym, take, true}
 use Rattle.std.proofs.KnownBytes.{Appends-kept}
 use Rattle.std.proofs.lemmas.Bool.{not-true}
 use Rattle.litscan.specs.Inside.Passed.{EndsLine, TakesLines}
@@ -13,7 +13,15 @@ returns-in_default-clause-takes g c =
     let written = g.W.Write.contents c.args.writer.now.inner in
     subst (λ ahead. TakesLines c.args.search.now c.args.options c.args.name.now c.args.lines c.args.offset ahead
     (take ahead.bytes c.args.bytes.now) written written) (sym c.none.ensures)
-    (nothing_taken c.args.search.now c.args.options c.args.name.now c.args.lines c.args.offset written
+    (nothing_taken c.args.search.now c.args.options c.args.name.now c.args.lines c.args.offset written false
+    c.ranges.offset.fits)
+
+pub returns-then-is_empty-clause-takes : goal.returns-then-is_empty-clause-takes
+returns-then-is_empty-clause-takes g c =
+    let written = g.W.Write.contents c.args.writer.now.inner in
+    subst (λ ahead. TakesLines c.args.search.now c.args.options c.args.name.now c.args.lines c.args.offset ahead
+    (take ahead.bytes c.args.bytes.now) written written) (sym c.at_end.ensures)
+    (nothing_taken c.args.search.now c.args.options c.args.name.now c.args.lines c.args.offset written true
     c.ranges.offset.fits)
 
 pub returns-in_default-next-clause-takes : goal.returns-in_default-next-clause-takes

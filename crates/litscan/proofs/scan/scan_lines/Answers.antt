@@ -1,7 +1,9 @@
 use Rattle.std.proofs.Common.{◌≡◌, ◌+◌, ◌++◌, None, Some, ◌∷◌, [], Bool, ℕ, Option, false, true}
 use Rattle.std.proofs.Common.{refl, inr, sym, ap, subst, ◌∙◌, arith}
 use Rattle.std.proofs.KnownBytes.{Appends-nil, Consumes-nil}
+use Rattle.std.proofs.lemmas.List.{nil_from_length}
 use Rattle.std.proofs.lemmas.List.Elements.{All-nil}
+use Rattle.std.specs.Io.KnownBytes.{Consumes}
 use Rattle.std.specs.List.{count_by, flat_map}
 use Rattle.std.specs.Option.{IsSome}
 use Rattle.std.specs.declared.io.ErrorKind.TheVariants.{FileTooLarge}
@@ -11,6 +13,7 @@ use Rattle.litscan.specs.Options.{is_enough, is_silent, limit_of}
 use Rattle.litscan.specs.Printed.{CannotRead, PrintsUnlessSilent, ReadsTooMany, counts}
 use Rattle.litscan.specs.declared.options.Options.{Options}
 use Rattle.litscan.proofs.lemmas.Passing.{Answers, ended_so_far, failed_so_far, few_so_far, kept_so_far, none_counted}
+use Rattle.litscan.proofs.lemmas.Passing.{none_taken}
 use Rattle.litscan.proofs.lemmas.Passing.{read_on}
 use Rattle.litscan.proofs.lemmas.Passing.{scanned_so_far, taken_on}
 use Rattle.litscan.proofs.lemmas.Printing.{prints_none}
@@ -81,6 +84,23 @@ overflow_add-lines g c =
 
 pub overflow_add-offset : goal.overflow_add-offset
 overflow_add-offset g c = omega (arith, c.in-Ok.ensures.takes.2.small)
+
+pub returns-then-ahead-clause-scanned : goal.returns-then-ahead-clause-scanned
+returns-then-ahead-clause-scanned g c =
+    let so_far = c.loop-options.invariant.so_far in
+    let no = not_yet c.args.options c.loop-options.count c.is_enough.ensures c.limit.ensures c.if-is_enough.false in
+    let takes = c.in-Ok.ensures.takes in
+    let end = c.in-Ok.ensures.end c.if-ahead.true in
+    let none : takes.0 ≡ [] = nil_from_length takes.0 (omega (arith, end.0, takes.2.bytes_are)) in
+    let prints = PrintsUnlessSilent (is_silent c.args.options) c.args.search.now c.args.options c.args.name.now
+    (c.loop-options.lines + 1) c.loop-options.offset in
+    subst (Answers c.args.search.now c.args.options c.args.name.now _ _ _ _) (sym c.whole-then-ahead.ensures)
+    (ended_so_far so_far no _ _ [] takes.2.out false (c.loop-options.lines + 1) c.loop-options.offset
+    c.in-Ok.ahead.count refl refl refl (λ k d below. absurd (omega (arith, below)))
+    (subst (Consumes (g.R.Read.remaining c.loop-options.reader.inner)
+    (g.R.Read.remaining c.take_ahead.new.reader.inner)) none takes.1) (λ _. end.1) takes.2.writes
+    (subst (λ all. prints all takes.2.out) (none_taken takes.2 end.0) takes.2.printed)
+    (none_counted takes.2 end.0))
 
 pub loop-options-smaller-then-ahead-gt0 : goal.loop-options-smaller-then-ahead-gt0
 loop-options-smaller-then-ahead-gt0 g c =
